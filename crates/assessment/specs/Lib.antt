@@ -1,0 +1,9 @@
+pub mod Sums
+pub mod Calendar
+pub mod Rules
+pub mod Records
+pub mod Totals
+pub mod Days
+pub mod Lines
+pub mod Laws
+pub mod Known
