@@ -28,19 +28,17 @@ flexible-owed : (p : Bool) (G Φ : ℕ) → cond p Φ 0 ≤ max G Φ * cond p 1 
 flexible-owed true G Φ = omega arith
 flexible-owed false G Φ = omega arith
 
-generic-hour-law : (r : Rules) (c : DayCase) (b : HourBids) (h : ℕ) → RulesOwed r → HourLaw (larger-net c) (generic-hour r c b h)
-unfolding generic-hour
+generic-hour-law : (r : Rules) (c : DayCase) (b : HourBids) (h : ℕ) → RulesOwed r → HourLaw (larger-net (c .submission)) (generic-hour r c b h)
 generic-hour-law r c b h o = record {
-  day-ahead-within = o .generic .obliged _ _ _;
-  real-time-within = o .generic .obliged _ _ _;
+  day-ahead-within = o .generic .taken _ _ _;
+  real-time-within = o .generic .taken _ _ _;
   capped = generic-owed (generic-in r c h) (flexible-in r c h) (generic-net c) (flexible-net c);
 }
 
-flexible-hour-law : (r : Rules) (c : DayCase) (b : HourBids) (h : ℕ) → RulesOwed r → HourLaw (larger-net c) (flexible-hour r c b h)
-unfolding flexible-hour
+flexible-hour-law : (r : Rules) (c : DayCase) (b : HourBids) (h : ℕ) → RulesOwed r → HourLaw (larger-net (c .submission)) (flexible-hour r c b h)
 flexible-hour-law r c b h o = record {
-  day-ahead-within = o .flexible .obliged _ _ _;
-  real-time-within = o .flexible .obliged _ _ _;
+  day-ahead-within = o .flexible .taken _ _ _;
+  real-time-within = o .flexible .taken _ _ _;
   capped = flexible-owed (flexible-in r c h) (generic-net c) (flexible-net c);
 }
 
@@ -52,11 +50,11 @@ day-total-law k hour law n = record {
   capped = sum-scaled _ _ k (λ h. law h .capped) n;
 }
 
-generic-law : (r : Rules) (c : DayCase) → RulesOwed r → HourLaw (larger-net c) (generic-to r c 24)
-generic-law r c o = day-total-law (larger-net c) _ (λ h. generic-hour-law r c (bids-after (c .submission) (h - 1)) h o) 24
+generic-law : (r : Rules) (c : DayCase) → RulesOwed r → HourLaw (larger-net (c .submission)) (generic-to r c 24)
+generic-law r c o = day-total-law (larger-net (c .submission)) _ (λ h. generic-hour-law r c (bids-after (c .submission) (h - 1)) h o) 24
 
-flexible-law : (r : Rules) (c : DayCase) → RulesOwed r → HourLaw (larger-net c) (flexible-to r c 24)
-flexible-law r c o = day-total-law (larger-net c) _ (λ h. flexible-hour-law r c (bids-after (c .submission) (h - 1)) h o) 24
+flexible-law : (r : Rules) (c : DayCase) → RulesOwed r → HourLaw (larger-net (c .submission)) (flexible-to r c 24)
+flexible-law r c o = day-total-law (larger-net (c .submission)) _ (λ h. flexible-hour-law r c (bids-after (c .submission) (h - 1)) h o) 24
 
 smaller-within : (a b o : ℕ) → a ≤ o → min a b ≤ o
 smaller-within a b o h = omega arith
@@ -66,7 +64,7 @@ unfolding day-figures
 day-law r c o =
     let g = generic-to r c 24 in
     let f = flexible-to r c 24 in
-    let m = larger-net c in
+    let m = larger-net (c .submission) in
     let lg = generic-law r c o in
     let lf = flexible-law r c o in
     record {

@@ -1,6 +1,5 @@
 -- The totals of a day, hour by hour.
-use mathlib.Core.Path.{_≡_, refl, sym, ap}
-use mathlib.Core.Bool.{Bool, true, false, cond}
+use mathlib.Core.Path.{_≡_}
 use Prim.Native.Nat.{ℕ, _+_, _-_, _*_, _≤_}
 use native.Mathlib.Omega.{arith}
 use Rattle.assessment.specs.Sums.{sum-to}
@@ -25,10 +24,6 @@ at-ending F n t e = let back : n + 1 - 1 ≡ n = omega arith in rw back e
 
 pub sound-none : Sound 0 none
 sound-none = record { few = omega arith; capped = omega arith; day-ahead-within = omega arith; real-time-within = omega arith }
-
-pub sound-hour : (b : Bool) (owed da rt : ℕ) → owed ≤ 2000000 * cond b 1 0 → da ≤ owed → rt ≤ owed → Sound 1 (record { hours = cond b 1 0; owed = owed; «day_ahead» = da; «real_time» = rt })
-sound-hour true owed da rt p q r = record { few = omega arith; capped = p; day-ahead-within = q; real-time-within = r }
-sound-hour false owed da rt p q r = record { few = omega arith; capped = p; day-ahead-within = q; real-time-within = r }
 
 pub sound-more : (n : ℕ) (a b t : PoolTotals) → Sound n a → Sound 1 b → t ≡ totals-add a b → Sound (n + 1) t
 sound-more n a b t p q e =

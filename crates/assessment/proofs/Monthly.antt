@@ -1,4 +1,4 @@
--- A month's sums over the rows of its days, and the law of a line.
+-- A month's sums over the rows of its days.
 use mathlib.Core.Path.{_≡_, refl, sym, ap, subst, _∙_}
 use mathlib.Core.List.{List}
 use Prim.Native.Nat.{ℕ, _+_, _-_, _*_, _/_, _≤_, _<_}
@@ -7,13 +7,11 @@ use lib.ListN.{length, take, getD}
 use lib.Seq.{take-all}
 use Rattle.std.specs.shelf.Lists.{sumBy}
 use Rattle.std.proofs.shelf.Sums.{sumBy-more}
-use Rattle.assessment.specs.Laws.{LineLaw}
 use Rattle.assessment.specs.Lines.{figures-in, PoolWithin, RowWithin, obligation-sum, availability-sum, line-of}
 use Rattle.assessment.specs.declared.day_result.PoolFigures.{PoolFigures}
 use Rattle.assessment.specs.declared.day_result.DayFigures.{DayFigures}
 use Rattle.assessment.specs.declared.day_result.DayRow.{DayRow}
 use Rattle.assessment.specs.declared.line.Line.{Line}
-use Rattle.assessment.proofs.Watts.{div-mono}
 
 -- one pool's sums over the first i rows
 pub record Summed (pool : DayFigures → PoolFigures) (rows : List DayRow) (i o a : ℕ) : Type 0 where
@@ -38,16 +36,6 @@ pub summed-all : (pool : DayFigures → PoolFigures) (rows : List DayRow) (i o a
 summed-all pool rows i o a n n′ l s h e is =
     let all = take-all i rows h in
     is ∙ rw (s .obligation-is, s .availability-is, all, e)
-
--- a charged quantity leaves out what was available, and a paid one counts at most what was owed
-pub line-law : (o a n : ℕ) → a ≤ o → LineLaw (line-of o a n)
-line-law o a n h = record {
-  charged-within = λ e. rw e (div-mono (945 * o - 1000 * a) (945 * o) (1000 * n) (omega arith));
-  paid-within = λ e. rw e (div-mono (1000 * a - 985 * o) (15 * o) (1000 * n) (omega arith));
-}
-
-pub line-law-of : (l : Line) (o a n : ℕ) → a ≤ o → l ≡ line-of o a n → LineLaw l
-line-law-of l o a n h e = subst LineLaw (sym e) (line-law o a n h)
 
 -- a row whose figures are a day result's is within its limits
 pub row-within : (r : DayRow) (f : DayFigures) → f ≡ figures-in r → PoolWithin (f .generic) → PoolWithin (f .flexible) → RowWithin r

@@ -46,3 +46,12 @@ some-below p i n passes lt =
 
 pub none-more : (p : ℕ → Bool) (i : ℕ) → count-to p i ≡ 0 → false ≡ p (i + 1) → count-to p (i + 1) ≡ 0
 none-more p i e q = omega (arith, sum-more (λ j. cond (p j) 1 0) i, ap {B = ℕ} (λ b. cond b 1 0) q)
+
+at-most-one : (b : Bool) → cond b 1 0 ≤ 1
+at-most-one true = omega arith
+at-most-one false = omega arith
+
+pub count-le : (p : ℕ → Bool) (n : ℕ) → count-to p n ≤ n
+unfolding sum-to
+count-le p zero = omega arith
+count-le p (suc n) = omega (arith, count-le p n, at-most-one (p (n + 1)))

@@ -9,7 +9,7 @@ use lib.Dec.{eqb}
 use Rattle.std.proofs.shelf.Tests.{cases-lt}
 use Rattle.std.proofs.shelf.Ways.{tells}
 use Rattle.std.proofs.shelf.Bits.{mul-le, le-div, div-add-mod'}
-use Rattle.assessment.specs.Days.{figure, weight, pool-figures}
+use Rattle.assessment.specs.Days.{figure, weight}
 use Rattle.assessment.specs.Totals.{Sound}
 use Rattle.assessment.specs.declared.totals.PoolTotals.{PoolTotals}
 
@@ -51,9 +51,11 @@ figure-capped k own other m owed h =
     (guard-capped (eqb (weight own other) 0) _ _
     (div-le-of-le-mul (weight own other) (rw (weighed (own .owed) (other .hours) m) (mul-le (own .owed * other .hours) (1000 * m) (weight own other) (1000 * k) (omega arith) (omega arith))))))
 
-pub pool-within : (own other : PoolTotals) (m : ℕ) → Sound 24 own → m ≤ 2000000 → (pool-figures own other m .availability ≤ pool-figures own other m .obligation) × (pool-figures own other m .obligation ≤ 2000000000)
-pool-within own other m s h =
-    (omega (arith, figure-mono (own .«day_ahead») (own .owed) own other m (s .day-ahead-within)), figure-capped 2000000 own other m (s .capped) h)
+pub watts-within : (w x : ℕ) (own other : PoolTotals) (m : ℕ) → Sound 24 own → x ≤ own .owed → m ≤ 2000000 → w ≡ figure x own other m → (w ≤ figure (own .owed) own other m) × (w ≤ 2000000000)
+watts-within w x own other m s h k is =
+    let grows = figure-mono x (own .owed) own other m h in
+    let cap : figure (own .owed) own other m ≤ 2000000000 = figure-capped 2000000 own other m (s .capped) k in
+    (omega arith, omega arith)
 
 -- two parts of a whole, each rounded down
 pub parts : (a b D m : ℕ) → 0 < D → a + b ≡ m * D → (a / D + b / D ≤ m) × (m < a / D + b / D + 2)

@@ -76,7 +76,7 @@ abbrev pub in-all : ℕ × ℕ → ℕ
 in-all taken = taken .0 + taken .1
 
 -- an hour of each pool at these bids
-unfoldable pub flexible-hour : Rules → DayCase → HourBids → ℕ → PoolTotals
+abbrev pub flexible-hour : Rules → DayCase → HourBids → ℕ → PoolTotals
 flexible-hour r c b h = record {
   hours = cond (flexible-in r c h) 1 0;
   owed = flexible-due r c h;
@@ -84,7 +84,7 @@ flexible-hour r c b h = record {
   «real_time» = in-all (flexible-taken r (flexible-due r c h) (b .«real_time»));
 }
 
-unfoldable pub generic-hour : Rules → DayCase → HourBids → ℕ → PoolTotals
+abbrev pub generic-hour : Rules → DayCase → HourBids → ℕ → PoolTotals
 generic-hour r c b h = record {
   hours = cond (generic-in r c h) 1 0;
   owed = generic-due r c h;
@@ -118,12 +118,13 @@ pool-figures own other largest = record {
   availability = min (figure (own .«day_ahead») own other largest) (figure (own .«real_time») own other largest);
 }
 
-abbrev pub larger-net : DayCase → ℕ
-larger-net c = max (generic-net c) (flexible-net c)
+-- M
+abbrev pub larger-net : DaySubmission → ℕ
+larger-net s = max (net (s .generic)) (net (s .flexible))
 
 -- the day's figures under two rules
 unfoldable pub day-figures : Rules → DayCase → DayFigures
 day-figures r c = record {
-  generic = pool-figures (generic-to r c 24) (flexible-to r c 24) (larger-net c);
-  flexible = pool-figures (flexible-to r c 24) (generic-to r c 24) (larger-net c);
+  generic = pool-figures (generic-to r c 24) (flexible-to r c 24) (larger-net (c .submission));
+  flexible = pool-figures (flexible-to r c 24) (generic-to r c 24) (larger-net (c .submission));
 }

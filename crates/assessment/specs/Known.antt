@@ -42,28 +42,28 @@ overlapping-day = day-figures (both generic-rule flexible-rule) (record { month 
 
 pub record Known : Type 0 where
   pub worked : ℕ
-  pub known : ℕ
+  pub figure : ℕ
 
-abbrev is : ℕ → ℕ → Known
-is worked known = record { worked = worked; known = known }
+abbrev pub known : ℕ → ℕ → Known
+known worked figure = record { worked = worked; figure = figure }
 
 abbrev pub known-figures : List Known
 known-figures =
-    is (work-days june-2018) 21
-    ∷ is (overlapping-day .generic .obligation) 1166666
-    ∷ is (overlapping-day .flexible .obligation) 833333
-    ∷ is (overlapping-day .generic .availability) 833333
-    ∷ is (overlapping-day .flexible .availability) 0
-    ∷ is (letter (line-of 200000 188999 21 .state)) (letter Charged)
-    ∷ is (letter (line-of 200000 189000 21 .state)) (letter Neutral)
-    ∷ is (letter (line-of 200000 197000 21 .state)) (letter Neutral)
-    ∷ is (letter (line-of 200000 197001 21 .state)) (letter Paid)
-    ∷ is (line-of 200000 197001 21 .quantity) 0
+    known (work-days june-2018) 21
+    ∷ known (overlapping-day .generic .obligation) 1166666
+    ∷ known (overlapping-day .flexible .obligation) 833333
+    ∷ known (overlapping-day .generic .availability) 833333
+    ∷ known (overlapping-day .flexible .availability) 0
+    ∷ known (letter (line-of 200000 188999 21 .state)) (letter Charged)
+    ∷ known (letter (line-of 200000 189000 21 .state)) (letter Neutral)
+    ∷ known (letter (line-of 200000 197000 21 .state)) (letter Neutral)
+    ∷ known (letter (line-of 200000 197001 21 .state)) (letter Paid)
+    ∷ known (line-of 200000 197001 21 .quantity) 0
     ∷ []
 
 abbrev pub agree : List Known → Bool
 agree [] = true
-agree (k ∷ ks) = eqb (k .worked) (k .known) && agree ks
+agree (k ∷ ks) = eqb (k .worked) (k .figure) && agree ks
 
 -- every figure of the table is the known one
 abbrev pub KnownFiguresAgree : Type 0

@@ -11,11 +11,22 @@ pub record Rule : Type 0 where
   pub assesses : TradeMonth → ℕ → ℕ → ℕ → Bool
   pub takes : ℕ → ℕ → ℕ → ℕ × ℕ
 
--- neither figure passes its bid, and their sum does not pass the obligation
+-- what is taken of a bid does not pass it
+abbrev pub EconomicWithin : Rule → Type 0
+EconomicWithin r = (o e s : ℕ) → r .takes o e s .0 ≤ e
+
+abbrev pub ScheduledWithin : Rule → Type 0
+ScheduledWithin r = (o e s : ℕ) → r .takes o e s .1 ≤ s
+
+-- what is taken in all does not pass the obligation
+abbrev pub TakenWithin : Rule → Type 0
+TakenWithin r = (o e s : ℕ) → r .takes o e s .0 + r .takes o e s .1 ≤ o
+
+-- what every rule owes; that equal questions have equal answers, a rule owes by being a function
 pub record Owed (r : Rule) : Type 0 where
-  pub economic : (o e s : ℕ) → r .takes o e s .0 ≤ e
-  pub scheduled : (o e s : ℕ) → r .takes o e s .1 ≤ s
-  pub obliged : (o e s : ℕ) → r .takes o e s .0 + r .takes o e s .1 ≤ o
+  pub economic : EconomicWithin r
+  pub scheduled : ScheduledWithin r
+  pub taken : TakenWithin r
 
 -- the five hours of a window
 abbrev pub in-window : ℕ → ℕ → Bool

@@ -1,7 +1,7 @@
 // A resource's day by any two rules: the obligation and availability of both pools, in watts.
 ghost use mathlib.Core.Path.{_≡_};
 ghost use Prim.Native.Nat.{ℕ, _≤_};
-ghost use Rattle.assessment.specs.Days.{figure, pool-figures, both, day-case, day-figures};
+ghost use Rattle.assessment.specs.Days.{figure, pool-figures, larger-net, both, day-case, day-figures};
 ghost use Rattle.assessment.specs.Laws.{DayLaw};
 ghost use Rattle.assessment.specs.Totals.{Sound};
 use crate::day_record::DayRecord;
@@ -12,12 +12,15 @@ use crate::hours::assess_hours;
 use crate::hours::net_showing;
 use crate::rule::AvailabilityRule;
 use crate::settings::TradeDay;
+use crate::submission::DaySubmission;
 use crate::totals::PoolTotals;
 
 // Exact products first, then one division.
 fn watts(amount: u64, own: PoolTotals, other: PoolTotals, largest: u64) -> u64
     requires { ⌜ Sound 24 own ⌝ ∗ ⌜ Sound 24 other ⌝ ∗ ⌜ amount ≤ own .owed ⌝ ∗ ⌜ largest ≤ 2000000 ⌝ }
-    ensures { λ r. ⌜ r ≡ figure amount own other largest ⌝ }
+    ensures is { λ r. ⌜ r ≡ figure amount own other largest ⌝ }
+    ensures grows { λ r. ⌜ r ≤ figure (own .owed) own other largest ⌝ }
+    ensures capped { λ r. ⌜ r ≤ 2000000000 ⌝ }
 {
     match (own.hours, other.hours) {
         (0, _) => 0,
@@ -31,6 +34,14 @@ fn watts(amount: u64, own: PoolTotals, other: PoolTotals, largest: u64) -> u64
             }
         }
     }
+}
+
+fn larger_net_showing(submission: &DaySubmission) -> u64
+    ensures { λ r. ⌜ r ≡ larger-net (now (submission .entry)) ⌝ }
+{
+    let generic = net_showing(&submission.generic);
+    let flexible = net_showing(&submission.flexible);
+    generic.max(flexible) as u64
 }
 
 fn pool_day(own: PoolTotals, other: PoolTotals, largest: u64) -> PoolFigures
@@ -58,9 +69,7 @@ pub fn assess_day<G: AvailabilityRule, F: AvailabilityRule>(
     ensures law { λ _. ⌜ DayLaw (both (G·AvailabilityRule .means (now (generic .entry))) (F·AvailabilityRule .means (now (flexible .entry)))) (day-case (now (day .entry)) (now (submitted .entry))) ⌝ }
 {
     let totals = assess_hours(day, submitted, generic, flexible);
-    let generic_net = net_showing(&submitted.submission.generic) as u64;
-    let flexible_net = net_showing(&submitted.submission.flexible) as u64;
-    let largest = generic_net.max(flexible_net);
+    let largest = larger_net_showing(&submitted.submission);
     DayResult {
         figures: DayFigures {
             generic: pool_day(totals.generic, totals.flexible, largest),

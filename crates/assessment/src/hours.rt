@@ -83,7 +83,9 @@ fn take_both<G: AvailabilityRule, F: AvailabilityRule>(
 }
 
 fn pool_hour(assessed: bool, owed: u32, day_ahead: u32, real_time: u32) -> PoolTotals
-    ensures { λ r. ⌜ r ≡ record { hours = cond assessed 1 0; owed = owed; «day_ahead» = «day_ahead»; «real_time» = «real_time» } ⌝ }
+    requires { ⌜ owed ≤ 2000000 * cond assessed 1 0 ⌝ ∗ ⌜ «day_ahead» ≤ owed ⌝ ∗ ⌜ «real_time» ≤ owed ⌝ }
+    ensures sound { λ r. ⌜ Sound 1 r ⌝ }
+    ensures is { λ r. ⌜ r ≡ record { hours = cond assessed 1 0; owed = owed; «day_ahead» = «day_ahead»; «real_time» = «real_time» } ⌝ }
 {
     PoolTotals {
         hours: if assessed { 1 } else { 0 },

@@ -5,7 +5,7 @@ ghost use lib.ListN.{length};
 ghost use Rattle.std.specs.Options.{Cases};
 ghost use Rattle.std.specs.Slices.{found};
 ghost use Rattle.assessment.specs.Days.{both};
-ghost use Rattle.assessment.specs.Laws.{LineLaw};
+ghost use Rattle.assessment.specs.Laws.{LinesLaw};
 ghost use Rattle.assessment.specs.Lines.{RowsWithin, has-hours, assessed-days, line-of, lines-of};
 use crate::calendar::trade_day;
 use crate::category::Category;
@@ -105,7 +105,7 @@ pub fn month_lines<G: AvailabilityRule, F: AvailabilityRule>(
     flexible: &F,
 ) -> Option<MonthLines>
     ensures is { λ r. ⌜ Cases r (RowsWithin (now (rows .entry)) → ⊥) (λ l. RowsWithin (now (rows .entry)) × (l ≡ lines-of (both (G·AvailabilityRule .means (now (generic .entry))) (F·AvailabilityRule .means (now (flexible .entry)))) (now (settings .entry) .month) (category .number) (now (rows .entry)))) ⌝ }
-    ensures law { λ r. ⌜ found r (λ l. LineLaw (l .generic) × LineLaw (l .flexible)) ⌝ }
+    ensures law { λ r. ⌜ found r LinesLaw ⌝ }
 {
     if rows.len() != PLACES {
         return None;
@@ -119,16 +119,18 @@ pub fn month_lines<G: AvailabilityRule, F: AvailabilityRule>(
         generic_sum = generic_sum.plus(day.figures.generic);
         flexible_sum = flexible_sum.plus(day.figures.flexible);
     }
+    let generic_days = days_assessed(generic, settings, category);
+    let flexible_days = days_assessed(flexible, settings, category);
     Some(MonthLines {
         generic: month_line(
             generic_sum.obligation,
             generic_sum.availability,
-            days_assessed(generic, settings, category),
+            generic_days,
         ),
         flexible: month_line(
             flexible_sum.obligation,
             flexible_sum.availability,
-            days_assessed(flexible, settings, category),
+            flexible_days,
         ),
     })
 }

@@ -1,15 +1,19 @@
 // The availability rule: which hours it assesses, and what it takes of a bid.
 ghost use mathlib.Core.Path.{_≡_};
-ghost use Rattle.assessment.specs.Rules.{Rule, Owed};
+ghost use Rattle.assessment.specs.Rules.{Rule, EconomicWithin, ScheduledWithin, TakenWithin};
 use crate::category::Category;
 use crate::settings::TradeDay;
 
 // A rule's meaning is a function of the rule alone, so equal questions have
-// equal answers; the law is what else every rule owes.
+// equal answers; the laws are what else every rule owes.
 pub trait AvailabilityRule {
     ghost means: { Self → Rule };
 
-    law owed: { (x : Self) → Owed (means x) };
+    law economic: { (x : Self) → EconomicWithin (means x) };
+
+    law scheduled: { (x : Self) → ScheduledWithin (means x) };
+
+    law taken: { (x : Self) → TakenWithin (means x) };
 
     // Whether the rule assesses the category in this hour ending of the day.
     fn assesses(&self, day: &TradeDay, category: Category, hour: u32) -> bool

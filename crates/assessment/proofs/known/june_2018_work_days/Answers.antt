@@ -1,8 +1,7 @@
 use mathlib.Core.Path.{refl}
-use borrow.Author.Needs.{needs}
 use lib.Dec.{lit≤}
 use Rattle.assessment.specs.Sums.{sum-to}
-use Rattle.assessment.specs.Days.{generic-hour, flexible-hour, day-figures}
+use Rattle.assessment.specs.Days.{day-figures}
 use Rattle.assessment.proofs.known.june_2018_work_days.Needs as need
 
 pub ghost-june : need.ghost-june
@@ -11,5 +10,5 @@ ghost-june c =
     ((lit≤ tt, lit≤ tt, lit≤ tt, lit≤ tt), (refl, (((lit≤ tt, lit≤ tt), (lit≤ tt, lit≤ tt), (lit≤ tt, lit≤ tt)), (refl, (refl, tt)))))
 
 pub returns : need.returns
-unfolding sum-to generic-hour flexible-hour day-figures
+unfolding sum-to day-figures
 returns c = record { figures = refl; counted = c .work-days .ensures .is }

@@ -1,0 +1,5 @@
+pub mod Plans
+pub mod Months
+pub mod Readings
+pub mod Agreement
+pub mod Measures
