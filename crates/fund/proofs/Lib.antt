@@ -1,0 +1,4 @@
+pub mod Postings
+pub mod Pages
+pub mod Laws
+pub mod Overlaid

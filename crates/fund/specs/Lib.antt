@@ -1,0 +1,9 @@
+pub mod Faults
+pub mod Balances
+pub mod Meaning
+pub mod Postings
+pub mod PerPool
+pub mod BalanceBook
+pub mod Journal
+pub mod Overlay
+pub mod Laws
