@@ -1,0 +1,13 @@
+pub mod Working
+pub mod Recordings
+pub mod Writing
+pub mod Steps
+pub mod Rates
+pub mod Paying
+pub mod Closings
+pub mod Shares
+pub mod Sharing
+pub mod Ceilings
+pub mod Places
+pub mod Returned
+pub mod Law

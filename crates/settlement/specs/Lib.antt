@@ -1,0 +1,10 @@
+pub mod Faults
+pub mod Tables
+pub mod Views
+pub mod Opening
+pub mod Recording
+pub mod Closing
+pub mod Releasing
+pub mod Known
+pub mod Runs
+pub mod Accounts
