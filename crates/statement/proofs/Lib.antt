@@ -1,0 +1,10 @@
+pub mod Enrolled
+pub mod Parsed
+pub mod Rostering
+pub mod Limits
+pub mod Recorded
+pub mod Dating
+pub mod Openings
+pub mod Wholes
+pub mod Rowing
+pub mod Lawful

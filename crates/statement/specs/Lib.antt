@@ -1,0 +1,13 @@
+pub mod Answers
+pub mod Located
+pub mod Faults
+pub mod Layout
+pub mod Reading
+pub mod Text
+pub mod Rows
+pub mod Rosters
+pub mod Files
+pub mod Settling
+pub mod Months
+pub mod Printing
+pub mod Laws
