@@ -16,7 +16,7 @@ const HOURS: u32 = 24;
 const PLACES: usize = 31;
 
 fn rule_has_hours<R: AvailabilityRule>(rule: &R, day: &TradeDay, category: Category) -> bool
-    ensures { result ≡ has_hours (means rule.now) day.now.settings.month category.number day.now.day }
+    ensures { result ≡ has_hours (R.means rule.now) day.now.settings.month category.number day.now.day }
 {
     for passed in 0..HOURS {
         if rule.assesses(day, category, passed + 1) {
@@ -27,7 +27,7 @@ fn rule_has_hours<R: AvailabilityRule>(rule: &R, day: &TradeDay, category: Categ
 }
 
 fn days_assessed<R: AvailabilityRule>(rule: &R, settings: &MonthSettings, category: Category) -> u32
-    ensures is { result ≡ assessed_days (means rule.now) settings.now.month category.number }
+    ensures is { result ≡ assessed_days (R.means rule.now) settings.now.month category.number }
     ensures few { result ≤ 31 }
 {
     let mut count = 0;

@@ -14,11 +14,11 @@ pub struct Account {
 
 // Looks up a pool's balances. No run of calls loses a cent of the binding one, and none made in advisory standing moves it.
 pub fn account_of<B: FundBook>(book: &B, pool: Pool) -> Account
-    ensures binding { result.binding ≡ means.binding (state book.now) pool }
-    ensures shown { result.shown ≡ means.shown (state book.now) pool }
-    ensures runs { RunsGoOn means }
-    ensures conserves { Conserves means sound }
-    ensures advisory { AdvisoryLeavesBinding means sound }
+    ensures binding { result.binding ≡ B.means.binding (B.state book.now) pool }
+    ensures shown { result.shown ≡ B.means.shown (B.state book.now) pool }
+    ensures runs { RunsGoOn B.means }
+    ensures conserves { Conserves B.means B.sound }
+    ensures advisory { AdvisoryLeavesBinding B.means B.sound }
 {
     Account {
         binding: book.binding(pool),
@@ -28,10 +28,10 @@ pub fn account_of<B: FundBook>(book: &B, pool: Pool) -> Account
 
 // Rules the book off if fewer places are free than that many postings want. For up to 6 postings there are then places.
 pub fn make_room<B: FundBook>(book: &mut B, postings: usize)
-    ensures made { state book.new ≡ with_room means (state book.old) postings }
-    ensures roomy { Roomy means (state book.old) (state book.new) postings }
-    ensures places { RulingOffMakesRoom means sound }
-    ensures four { FourPostingsHavePlaces means sound }
+    ensures made { B.state book.new ≡ with_room B.means (B.state book.old) postings }
+    ensures roomy { Roomy B.means (B.state book.old) (B.state book.new) postings }
+    ensures places { RulingOffMakesRoom B.means B.sound }
+    ensures four { FourPostingsHavePlaces B.means B.sound }
 {
     if book.free_places() < postings {
         book.rule_off();

@@ -21,11 +21,11 @@ pub struct Overlay<B: FundBook> {
 impl<B: FundBook> Overlay<B> {
     // An overlay over the book, which it stands binding.
     pub fn over(mut lower: B) -> Overlay<B>
-        ensures made { overlaid_of state result ≡ over means (state lower) }
-        ensures book { IsABook means sound }
-        ensures twice { IsABook (overlay_book means) (OverlaidSound sound) }
-        ensures binding { LowerStaysBinding means sound }
-        ensures untouched { LowerUntouched means }
+        ensures made { overlaid_of B.state result ≡ over B.means (B.state lower) }
+        ensures book { IsABook B.means B.sound }
+        ensures twice { IsABook (overlay_book B.means) (OverlaidSound B.sound) }
+        ensures binding { LowerStaysBinding B.means B.sound }
+        ensures untouched { LowerUntouched B.means }
     {
         let _ = lower.stand(Standing::Binding);
         Overlay {

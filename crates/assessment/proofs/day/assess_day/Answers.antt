@@ -8,7 +8,7 @@ pub returns : goal.returns
 returns g c =
     let rules = both (g.G.AvailabilityRule.means c.args.generic.now) (g.F.AvailabilityRule.means c.args.flexible.now) in
     let case = day_case c.args.day.now c.args.submitted.now in
-    let totals = c.assess-hours-totals.ensures in
+    let totals = c.assess_hours-totals.ensures in
     let G = g.met.G.AvailabilityRule in
     let F = g.met.F.AvailabilityRule in
     let owed : RulesOwed rules = record {
@@ -16,6 +16,6 @@ returns g c =
       flexible = record { economic = F.economic c.args.flexible.now; scheduled = F.scheduled c.args.flexible.now; taken = F.taken c.args.flexible.now };
     } in
     record {
-      is = day_is rules case _ _ _ _ _ totals.generic-is totals.flexible-is c.larger-net-showing-largest.ensures c.pool-day.ensures.is c.pool-day-2.ensures.is;
+      is = day_is rules case _ _ _ _ _ totals.generic_is totals.flexible_is c.larger_net_showing-largest.ensures c.pool_day.ensures.is c.pool_day-2.ensures.is;
       law = day_law rules case owed;
     }

@@ -3,14 +3,14 @@ use Rattle.assessment.specs.Days.{both, day_case, generic_in, flexible_in}
 use Rattle.assessment.proofs.Hourly.{generic_idle, flexible_idle, sound_idle}
 use Rattle.assessment.proofs.hours.assess_hour.Goals as goal
 
-pub returns-then-not-in-flexible : goal.returns-then-not-in-flexible
-returns-then-not-in-flexible g c =
+pub returns-then-not-in_flexible : goal.returns-then-not-in_flexible
+returns-then-not-in_flexible g c =
     let rules = both (g.G.AvailabilityRule.means c.args.generic.now) (g.F.AvailabilityRule.means c.args.flexible.now) in
     let case = day_case c.args.day.now c.args.submitted.now in
     let p : generic_in rules case c.args.hour ≡ false = cc in
     let q : flexible_in rules case c.args.hour ≡ false = cc in
     record {
-      generic-is = generic_idle rules case c.args.bids.now c.args.hour (g.met.G.AvailabilityRule.taken c.args.generic.now) p;
-      flexible-is = flexible_idle rules case c.args.bids.now c.args.hour (g.met.F.AvailabilityRule.taken c.args.flexible.now) q;
+      generic_is = generic_idle rules case c.args.bids.now c.args.hour (g.met.G.AvailabilityRule.taken c.args.generic.now) p;
+      flexible_is = flexible_idle rules case c.args.bids.now c.args.hour (g.met.F.AvailabilityRule.taken c.args.flexible.now) q;
       sound = (sound_idle, sound_idle);
     }

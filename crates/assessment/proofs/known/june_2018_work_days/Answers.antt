@@ -3,9 +3,9 @@ use Rattle.assessment.specs.Sums.{sum_to}
 use Rattle.assessment.specs.Days.{day_figures}
 use Rattle.assessment.proofs.known.june_2018_work_days.Goals as goal
 
-pub invariant-of-june : goal.invariant-of-june
+pub invariant_of-june : goal.invariant_of-june
 unfolding sum_to
-invariant-of-june c =
+invariant_of-june c =
     ((lit≤ tt, lit≤ tt, lit≤ tt, lit≤ tt), (refl, (((lit≤ tt, lit≤ tt), (lit≤ tt, lit≤ tt), (lit≤ tt, lit≤ tt)), (refl, (refl, tt)))))
 
 pub returns : goal.returns

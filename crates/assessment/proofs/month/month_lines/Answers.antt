@@ -15,8 +15,8 @@ loop-row-preserved g c =
     let day = c.in-Some.day in
     let is = c.in-Some.ensures in
     let lt : c.loop-row.row-index < length c.args.rows.now = c.loop-row-test.true in (
-      summed_more _ _ _ Empty _ _ _ _ day.figures.generic i.0 lt (ap (λ (f : DayFigures). f.generic) is) day.generic_within c.plus-generic-sum.ensures,
-      summed_more _ _ _ Empty _ _ _ _ day.figures.flexible i.1 lt (ap (λ (f : DayFigures). f.flexible) is) day.flexible_within c.plus-flexible-sum.ensures,
+      summed_more _ _ _ Empty _ _ _ _ day.figures.generic i.0 lt (ap (λ (f : DayFigures). f.generic) is) day.generic_within c.plus-generic_sum.ensures,
+      summed_more _ _ _ Empty _ _ _ _ day.figures.flexible i.1 lt (ap (λ (f : DayFigures). f.flexible) is) day.flexible_within c.plus-flexible_sum.ensures,
       below_more _ _ i.2 (row_within (get_or c.args.rows.now c.loop-row.row-index Empty) day.figures is day.generic_within day.flexible_within),
     )
 
@@ -28,9 +28,9 @@ returns g c =
     let i = c.loop-row.invariant in
     let all : length rows ≤ c.loop-row.row-index = c.loop-row-test.false in
     let within : RowsWithin rows = (c.if-rows-ne-PLACES.false, λ k lt. i.2 k (omega arith)) in
-    let is : ◌≡◌ {A = MonthLines} (record { generic = c.month-line.result; flexible = c.month-line-2.result }) (lines_of rules month c.args.category.number rows) =
+    let is : ◌≡◌ {A = MonthLines} (record { generic = c.month_line.result; flexible = c.month_line-2.result }) (lines_of rules month c.args.category.number rows) =
     cc (
-      summed_all _ _ _ _ _ _ _ _ i.0 all c.days-assessed-generic-days.ensures.is c.month-line.ensures,
-      summed_all _ _ _ _ _ _ _ _ i.1 all c.days-assessed-flexible-days.ensures.is c.month-line-2.ensures,
+      summed_all _ _ _ _ _ _ _ _ i.0 all c.days_assessed-generic_days.ensures.is c.month_line.ensures,
+      summed_all _ _ _ _ _ _ _ _ i.1 all c.days_assessed-flexible_days.ensures.is c.month_line-2.ensures,
     ) in
     record { is = (within, is); law = subst LinesLaw (sym is) (lines_law rules month c.args.category.number rows within) }

@@ -3,5 +3,5 @@ use Rattle.fund.specs.PostingsLemmas.{kept_none}
 use Rattle.fund.specs.declared.pool.Pool.TheVariants.{Generic, Flexible}
 use Rattle.fund.proofs.journal.Journal.over.Goals as goal
 
-pub invariant-of-result : goal.invariant-of-result
-invariant-of-result c = ((omega arith, omega arith), (omega arith, (kept_none Generic, (kept_none Flexible, tt))))
+pub invariant_of-result : goal.invariant_of-result
+invariant_of-result c = ((omega arith, omega arith), (omega arith, (kept_none Generic, (kept_none Flexible, tt))))

@@ -12,11 +12,11 @@ place j x k = omega (arith, k.fits, length_push (pages_of j).postings x, used j,
 written : (j : Journal) (x : Posting) → PagesSound (with_posting (pages_of j) x) → take (j.used + 1) (set j.places.items j.used x) ≡ take j.used j.places.items ++ x ∷ []
 written j x k = take_more_set j.places.items j.used x (place j x k)
 
-pub index-mut-requires : goal.index-mut-requires
-index-mut-requires c = omega (arith, place c.args.self.now c.args.posting c.requires, c.args.self.now.places.ok.0)
+pub index_mut-requires : goal.index_mut-requires
+index_mut-requires c = omega (arith, place c.args.self.now c.args.posting c.requires, c.args.self.now.places.ok.0)
 
-pub invariant-of-self : goal.invariant-of-self
-invariant-of-self c =
+pub invariant_of-self : goal.invariant_of-self
+invariant_of-self c =
     let e = written c.args.self.now c.args.posting c.requires in
     (c.args.self.now.sized, (omega (arith, place c.args.self.now c.args.posting c.requires, c.args.self.now.places.ok.0), (rw e c.requires.generic, (rw e c.requires.flexible, tt))))
 
