@@ -1,11 +1,10 @@
 -- The laws of a day, for every pair of rules that keep what they owe.
-use Rattle.std.proofs.Common.{◌≡◌, ℕ, ◌+◌, ◌-◌, ◌*◌, ◌<◌, ◌≤◌, min, max, Bool, true, false, cond, ⊎_elim, le-mul_of_pos_right, arith}
+use Rattle.std.proofs.Common.{◌≡◌, ℕ, ◌-◌, ◌*◌, ◌<◌, ◌≤◌, min, max, Bool, true, false, cond, ⊎_elim, le-mul_of_pos_right, arith}
 use Rattle.std.proofs.lemmas.Bool.{cases_lt}
-use Rattle.assessment.specs.Rules.{Owed}
 use Rattle.assessment.specs.Records.{bids_after}
 use Rattle.assessment.specs.Days.{Rules, DayCase, generic_net, flexible_net, generic_in, flexible_in, generic_hour, flexible_hour, generic_to, flexible_to, weight, larger_net, day_figures}
 use Rattle.assessment.specs.Totals.{totals_to}
-use Rattle.assessment.specs.Laws.{RulesOwed, DayLaw}
+use Rattle.assessment.specs.Laws.{RulesOwed, DayLaw, LittleLost}
 use Rattle.assessment.specs.declared.submission.HourBids.{HourBids}
 use Rattle.assessment.specs.declared.totals.PoolTotals.{PoolTotals}
 use Rattle.assessment.proofs.Running.{sum_mono, sum_scaled, sum_at_least}
@@ -94,8 +93,16 @@ day_law r c o =
       generic_capped = figure_capped m g f m lg.capped (omega arith);
       flexible_capped = figure_capped m f g m lf.capped (omega arith);
       shared = λ both. obligations_shared g f m both.0 both.1;
-      whole = λ both. ⊎_elim
-          (λ w. (obligations_whole g f m both.0 both.1 w).1)
-          (λ le. let none : weight g f ≡ 0 = omega arith in omega (arith, none_shown r c both.0 both.1 none))
-          (cases_lt 0 (weight g f));
+      whole = λ both w. (obligations_whole g f m both.0 both.1 w).1;
     }
+
+pub little_lost : (r : Rules) (c : DayCase) → LittleLost r c
+unfolding day_figures
+little_lost r c both =
+    let g = generic_to r c 24 in
+    let f = flexible_to r c 24 in
+    let m = larger_net c.submission in
+    ⊎_elim
+    (λ w. (obligations_whole g f m both.0 both.1 w).1)
+    (λ le. let none : weight g f ≡ 0 = omega arith in omega (arith, none_shown r c both.0 both.1 none))
+    (cases_lt 0 (weight g f))

@@ -1,8 +1,7 @@
 -- The totals of a day, hour by hour.
-use Rattle.std.proofs.Common.{◌≡◌, ℕ, ◌+◌, ◌-◌, ◌*◌, ◌≤◌, Bool, false, cond, ap, arith}
+use Rattle.std.proofs.Common.{◌≡◌, ℕ, ◌+◌, ◌-◌, ◌≤◌, Bool, false, cond, ap, arith}
 use Rattle.assessment.specs.Days.{Rules, DayCase, generic_net, flexible_net, generic_in, flexible_in, generic_hour, flexible_hour}
 use Rattle.assessment.specs.Rules.{TakenWithin}
-use Rattle.assessment.specs.Sums.{sum_to}
 use Rattle.assessment.specs.Totals.{Sound, totals_add, totals_to}
 use Rattle.assessment.specs.declared.submission.HourBids.{HourBids}
 use Rattle.assessment.specs.declared.totals.PoolTotals.{PoolTotals}

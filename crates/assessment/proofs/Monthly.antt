@@ -1,5 +1,5 @@
 -- A month's sums over the rows of its days.
-use Rattle.std.proofs.Common.{◌≡◌, ℕ, ◌+◌, ◌-◌, ◌*◌, ◌/◌, ◌<◌, ◌≤◌, List, length, get_or, take, sum_by, sym, refl, ap, ◌∙◌, subst, arith, take_all}
+use Rattle.std.proofs.Common.{◌≡◌, ℕ, ◌+◌, ◌*◌, ◌<◌, ◌≤◌, List, length, get_or, take, refl, ap, ◌∙◌, subst, arith, take_all}
 use Rattle.std.proofs.lemmas.List.Sums.{sum_by_more}
 use Rattle.assessment.specs.Lines.{figures_in, PoolWithin, RowWithin, obligation_sum, availability_sum, line_of}
 use Rattle.assessment.specs.declared.day_result.PoolFigures.{PoolFigures}

@@ -4,7 +4,7 @@ use Rattle.assessment.specs.Rules.{Owed}
 use Rattle.assessment.specs.declared.line.Line.{Line}
 use Rattle.assessment.specs.declared.line.MonthLines.{MonthLines}
 use Rattle.assessment.specs.declared.line.LineState.TheVariants.{Charged, Paid}
-use Rattle.assessment.specs.Days.{Rules, DayCase, generic_to, flexible_to, larger_net, day_figures}
+use Rattle.assessment.specs.Days.{Rules, DayCase, generic_to, flexible_to, weight, larger_net, day_figures}
 
 -- two rules that keep what every rule owes
 pub record RulesOwed (r : Rules) : Type 0 where
@@ -23,7 +23,11 @@ pub record DayLaw (r : Rules) (c : DayCase) : Type 0 where
   pub generic_capped : (day_figures r c).generic.obligation ≤ 1000 * larger_net c.submission
   pub flexible_capped : (day_figures r c).flexible.obligation ≤ 1000 * larger_net c.submission
   pub shared : BothAssessed r c → (day_figures r c).generic.obligation + (day_figures r c).flexible.obligation ≤ 1000 * larger_net c.submission
-  pub whole : BothAssessed r c → 1000 * larger_net c.submission < (day_figures r c).generic.obligation + (day_figures r c).flexible.obligation + 2
+  pub whole : BothAssessed r c → 0 < weight (generic_to r c 24) (flexible_to r c 24) → 1000 * larger_net c.submission < (day_figures r c).generic.obligation + (day_figures r c).flexible.obligation + 2
+
+-- That little is lost even where nothing is owed: then nothing is shown.
+abbrev pub LittleLost : Rules → DayCase → Type 0
+LittleLost r c = BothAssessed r c → 1000 * larger_net c.submission < (day_figures r c).generic.obligation + (day_figures r c).flexible.obligation + 2
 
 -- No more is available than owed, nor owed than 62,000,000,000 W, nor assessed than 31 days, and no quantity passes
 -- 58,590,000,000 W. A charged quantity is at most 94.5 per cent of the average capacity O / N, a paid one at most 1.5

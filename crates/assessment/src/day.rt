@@ -1,7 +1,7 @@
 // A resource's day by any two rules: the obligation and availability of both pools, in watts.
 ghost use Rattle.std.specs.Prelude.{◌≡◌, ◌≤◌};
 ghost use Rattle.assessment.specs.Days.{figure, pool_figures, larger_net, both, day_case, day_figures};
-ghost use Rattle.assessment.specs.Laws.{DayLaw};
+ghost use Rattle.assessment.specs.Laws.{DayLaw, LittleLost};
 ghost use Rattle.assessment.specs.Totals.{Sound};
 
 use crate::day_record::DayRecord;
@@ -64,6 +64,7 @@ pub fn assess_day<G: AvailabilityRule, F: AvailabilityRule>(
 ) -> DayResult
     ensures is { result.figures ≡ day_figures (both (G.AvailabilityRule.means generic.now) (F.AvailabilityRule.means flexible.now)) (day_case day.now submitted.now) }
     ensures law { DayLaw (both (G.AvailabilityRule.means generic.now) (F.AvailabilityRule.means flexible.now)) (day_case day.now submitted.now) }
+    ensures little_lost { LittleLost (both (G.AvailabilityRule.means generic.now) (F.AvailabilityRule.means flexible.now)) (day_case day.now submitted.now) }
 {
     let totals = assess_hours(day, submitted, generic, flexible);
     let largest = larger_net_showing(&submitted.submission);

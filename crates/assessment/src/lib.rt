@@ -1,5 +1,7 @@
 // The assessment of resource adequacy capacity: the trade month, availability
 // rules, one resource's day, and one line's month. No money is known here.
+#![tactic(auto)]
+
 mod calendar;
 pub mod category;
 mod checks;
@@ -17,6 +19,8 @@ mod rows;
 pub mod rule;
 pub mod settings;
 pub mod submission;
+#[cfg(test)]
+mod tests;
 mod totals;
 pub mod trade_month;
 mod window;

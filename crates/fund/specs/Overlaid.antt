@@ -32,6 +32,10 @@ module _ {S : Type 0} (m : FundMeaning S) (sound : S → Type 0) (law : Lawful m
       let h = law.holds l k in
       record { sized = h.sized; shown = within_at e w; binding = h.binding; agrees = λ b. absurd (let z : ◌≡◌ {A = ℕ} 0 1 = cc in omega arith) }
 
+  -- what an overlay shows is within the limit
+  pub overlay_shown_within : (s : Overlaid S) → OverlaidSound sound s → (q : Pool) → (overlay_book m).shown s q ≤ limit
+  overlay_shown_within s k q = (holds s.showing s.lower k.lower k.showing).shown q
+
   noted : (l : S) (q : Pool) → at (record { generic = m.shown l Generic; flexible = m.shown l Flexible }) q ≡ m.shown l q
   noted l Generic = refl
   noted l Flexible = refl

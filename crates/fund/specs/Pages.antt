@@ -7,7 +7,7 @@ use Rattle.fund.specs.Meaning.{Lawful, Holds, Stood, Posted, RuledOff, TakesIn, 
 use Rattle.fund.specs.Postings.{counted, balance, Kept}
 use Rattle.fund.specs.Journal.{Fit, Pages, PagesSound, journal_book, posting, with_posting, pages_from, pages_ruled_off, pages_of, brought, with_brought}
 use Rattle.fund.specs.declared.journal.Journal.{Journal}
-use Rattle.fund.specs.PostingsLemmas.{posted_total, kept_at, kept_in, kept_out, balance_in, balance_out, kept_forward, balance_forward, forward_short, forward}
+use Rattle.fund.specs.PostingsLemmas.{posted_total, kept_at, kept_in, kept_out, balance_in, balance_out, kept_forward, balance_forward, forward_short}
 use Rattle.fund.specs.PostingsLemmas.{balance_le as kept-le}
 use Rattle.fund.specs.declared.pool.Pool.{Pool}
 use Rattle.fund.specs.declared.pool.Pool.TheVariants.{Generic, Flexible}

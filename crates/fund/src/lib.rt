@@ -1,4 +1,6 @@
 // The money of the two pools: fund books, and one function that totals amounts.
+#![tactic(auto)]
+
 mod balance;
 pub mod balance_book;
 pub mod book;
@@ -10,4 +12,6 @@ pub mod overlay;
 pub mod per_pool;
 pub mod pool;
 pub mod posting;
+#[cfg(test)]
+mod tests;
 pub mod total;

@@ -1,7 +1,7 @@
 // The advisory overlay: over any other book, it keeps the balances of an advisory month to itself.
 ghost use Rattle.std.specs.Prelude.{◌≡◌};
 ghost use Rattle.fund.specs.Overlay.{Overlaid, OverlaidSound, overlaid_of, over, overlay_book, IsABook, LowerStaysBinding, LowerUntouched};
-ghost use Rattle.fund.specs.Overlaid.{overlay_lawful};
+ghost use Rattle.fund.specs.Overlaid.{overlay_lawful, overlay_shown_within};
 ghost use Rattle.std.proofs.Common.{rules};
 
 use crate::balance::Balance;
@@ -54,7 +54,7 @@ impl<B: FundBook> FundBook for Overlay<B> {
 
     ghost sized = { Prim.search rules };
 
-    ghost shown_within = { Prim.search rules };
+    ghost shown_within = { λ b q. overlay_shown_within _ _ B.FundBook.lawful (overlaid_of B.FundBook.state b) (Prim.search rules) q };
 
     ghost binding_within = { Prim.search rules };
 

@@ -14,4 +14,6 @@ mod releases;
 pub mod settlement;
 pub mod stage;
 pub mod tables;
+#[cfg(test)]
+mod tests;
 mod workings;

@@ -1,7 +1,7 @@
 use Rattle.assessment.specs.Days.{both, day_case}
 use Rattle.assessment.specs.Laws.{RulesOwed}
 use Rattle.assessment.proofs.Daily.{day_is}
-use Rattle.assessment.proofs.DayLaws.{day_law}
+use Rattle.assessment.proofs.DayLaws.{day_law, little_lost}
 use Rattle.assessment.proofs.day.assess_day.Goals as goal
 
 pub returns : goal.returns
@@ -18,4 +18,5 @@ returns g c =
     record {
       is = day_is rules case _ _ _ _ _ totals.generic_is totals.flexible_is c.larger_net_showing-largest.ensures c.pool_day.ensures.is c.pool_day-2.ensures.is;
       law = day_law rules case owed;
+      little_lost = little_lost rules case;
     }

@@ -19,12 +19,12 @@ overflow_mul-result-else-weight-eq0-3 c =
 
 pub returns-in_default-eq0 : goal.returns-in_default-eq0
 returns-in_default-eq0 c =
-    let is : 1000 * c.args.amount / c.args.own.hours ≡ figure c.args.amount c.args.own_val c.args.other c.args.largest = grind (arith, nat_tests) in
-    let within = watts_within _ c.args.amount c.args.own_val c.args.other c.args.largest c.requires.0 c.requires.1.1.0 c.requires.1.1.1 is in
+    let is : 1000 * c.args.amount / c.args.own.hours ≡ figure c.args.amount c.args.own c.args.other c.args.largest = grind (arith, nat_tests) in
+    let within = watts_within _ c.args.amount c.args.own c.args.other c.args.largest c.requires.0 c.requires.1.1.0 c.requires.1.1.1 is in
     record { is = is; grows = within.0; capped = within.1 }
 
 pub returns-else-weight-eq0 : goal.returns-else-weight-eq0
 returns-else-weight-eq0 c =
-    let is : 1000 * c.args.amount * c.args.other.hours * c.args.largest / weight c.args.own_val c.args.other ≡ figure c.args.amount c.args.own_val c.args.other c.args.largest = grind (arith, nat_tests) in
-    let within = watts_within _ c.args.amount c.args.own_val c.args.other c.args.largest c.requires.0 c.requires.1.1.0 c.requires.1.1.1 is in
+    let is : 1000 * c.args.amount * c.args.other.hours * c.args.largest / weight c.args.own c.args.other ≡ figure c.args.amount c.args.own c.args.other c.args.largest = grind (arith, nat_tests) in
+    let within = watts_within _ c.args.amount c.args.own c.args.other c.args.largest c.requires.0 c.requires.1.1.0 c.requires.1.1.1 is in
     record { is = is; grows = within.0; capped = within.1 }

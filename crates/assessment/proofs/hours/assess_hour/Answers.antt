@@ -1,4 +1,4 @@
-use Rattle.std.proofs.Common.{◌≡◌, false, arith}
+use Rattle.std.proofs.Common.{◌≡◌, false}
 use Rattle.assessment.specs.Days.{both, day_case, generic_in, flexible_in}
 use Rattle.assessment.proofs.Hourly.{generic_idle, flexible_idle, sound_idle}
 use Rattle.assessment.proofs.hours.assess_hour.Goals as goal

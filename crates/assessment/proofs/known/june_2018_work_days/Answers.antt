@@ -6,7 +6,7 @@ use Rattle.assessment.proofs.known.june_2018_work_days.Goals as goal
 pub invariant_of-june : goal.invariant_of-june
 unfolding sum_to
 invariant_of-june c =
-    ((lit≤ tt, lit≤ tt, lit≤ tt, lit≤ tt), (refl, (((lit≤ tt, lit≤ tt), (lit≤ tt, lit≤ tt), (lit≤ tt, lit≤ tt)), (refl, (refl, tt)))))
+    record { dated = (lit≤ tt, lit≤ tt, lit≤ tt, lit≤ tt); marks = refl; windows = ((lit≤ tt, lit≤ tt), (lit≤ tt, lit≤ tt), (lit≤ tt, lit≤ tt)); days_are = refl; first_is = refl }
 
 pub returns : goal.returns
 unfolding sum_to day_figures

@@ -1,5 +1,4 @@
-use Rattle.std.proofs.Common.{◌≡◌, ◌+◌, ◌-◌, true, false, arith}
-use Rattle.assessment.proofs.Running.{sum_none, count_more, some_below, none_more}
+use Rattle.assessment.proofs.Running.{sum_none, some_below, none_more}
 use Rattle.assessment.proofs.month.rule_has_hours.Goals as goal
 
 pub loop-passed-init : goal.loop-passed-init

@@ -8,7 +8,7 @@ use Rattle.examples.proofs.stretch.rows.Goals as goal
 pub loop-past-preserved : goal.loop-past-preserved
 loop-past-preserved c = (
   simp length-set c.loop-past.invariant.0,
-  filled_more (λ k. row_on c.args.settings.now.month c.args.stretches.now (k + 1)) _ c.loop-past.past _ Empty c.in-ok-row.ensures (omega arith) c.loop-past.invariant.1,
+  filled_more (λ k. row_on c.args.settings.now.month c.args.stretches.now (k + 1)) _ c.loop-past.past _ Empty c.in_ok-row.ensures (omega arith) c.loop-past.invariant.1,
 )
 
 pub returns : goal.returns

@@ -13,7 +13,7 @@ paid-requires c =
       c.requires.1.0,
       (
         subst (λ (e : LineEntry). e.line.quantity ≤ 58590000000) (sym rest) (c.requires.1.1 i lt),
-        c.eligible-quantities-quantities.ensures.eligible i lt ∙ ap (line_tells EligibleQuantity) (sym rest),
+        c.eligible_quantities-quantities.ensures.eligible i lt ∙ ap (line_tells EligibleQuantity) (sym rest),
       ),
     )
 

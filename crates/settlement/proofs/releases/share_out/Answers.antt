@@ -4,8 +4,8 @@ use Rattle.settlement.specs.declared.tables.LoadEntry.{LoadEntry}
 use Rattle.settlement.proofs.Writing.{at_rest, over_more, over_all}
 use Rattle.settlement.proofs.releases.share_out.Goals as goal
 
-pub with-shares-requires : goal.with-shares-requires
-with-shares-requires c =
+pub with_shares-requires : goal.with_shares-requires
+with_shares-requires c =
     let lt : c.loop-i.i < length c.args.loads.now = omega arith in
     let rest = at_rest (shared c.args.generic c.args.flexible c.args.total) c.args.loads.now c.loop-i.loads c.loop-i.i no_load lt c.loop-i.invariant in
     (c.requires.0, (c.requires.1.0, (c.requires.1.1.0, subst (λ (e : LoadEntry). e.load ≤ 1000000) (sym rest) (c.requires.1.1.1 c.loop-i.i lt))))
@@ -14,7 +14,7 @@ pub loop-i-preserved : goal.loop-i-preserved
 loop-i-preserved c =
     let lt : c.loop-i.i < length c.args.loads.now = omega arith in
     let lt' : c.loop-i.i < length c.loop-i.loads = omega arith in
-    over_more (shared c.args.generic c.args.flexible c.args.total) c.args.loads.now c.loop-i.loads c.loop-i.i no_load _ lt lt' c.loop-i.invariant c.with-shares.ensures
+    over_more (shared c.args.generic c.args.flexible c.args.total) c.args.loads.now c.loop-i.loads c.loop-i.i no_load _ lt lt' c.loop-i.invariant c.with_shares.ensures
 
 pub returns : goal.returns
 returns c =

@@ -13,4 +13,4 @@ returns g c =
     let rows = c.args.rows.now in
     let i = c.args.i in
     let L : ℕ → List DayRow → MonthLines = λ k xs. lines_of rules c.args.month.now.settings.month k xs in
-    lines_there c.month-lines.result _ (places_of rows i) L _ _ (part_is rows i) c.in-ok-category.ensures (places_within rows (length c.args.roster.now) i c.requires.0.1 c.requires.1.1 c.requires.1.0) c.month-lines.ensures.is c.month-lines.ensures.law
+    lines_there c.month_lines.result _ (places_of rows i) L _ _ (part_is rows i) c.in_ok-category.ensures (places_within rows (length c.args.roster.now) i c.requires.0.1 c.requires.1.1 c.requires.1.0) c.month_lines.ensures.is c.month_lines.ensures.law

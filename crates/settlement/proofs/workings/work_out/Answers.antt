@@ -14,15 +14,15 @@ loop-i-preserved g c =
     let price = c.args.month.now.price in
     let entry : Pool → ℕ → LineEntry = λ p k. charged_entry price (line_at rules c.args.month.now.settings.month c.args.roster.now c.args.rows.now p k) in
     let inv = c.loop-i.invariant in
-    let lines = c.in-ok-lines.ensures.0 in
-    let lt : c.loop-i.i < length c.loop-i.generic-lines = omega arith in
-    let lt' : c.loop-i.i < length c.loop-i.flexible-lines = omega arith in
+    let lines = c.in_ok-lines.ensures.0 in
+    let lt : c.loop-i.i < length c.loop-i.generic_lines = omega arith in
+    let lt' : c.loop-i.i < length c.loop-i.flexible_lines = omega arith in
     let first = c.charged.ensures ∙ ap (λ (l : MonthLines). charged_entry price l.generic) lines in
     let second = c.charged-in-loop-i.ensures ∙ ap (λ (l : MonthLines). charged_entry price l.flexible) lines in (
-      length-set c.loop-i.generic-lines c.loop-i.i _ ∙ inv.0,
-      length-set c.loop-i.flexible-lines c.loop-i.i _ ∙ inv.1,
-      filled_more (entry Generic) c.loop-i.generic-lines c.loop-i.i _ lt first inv.2,
-      filled_more (entry Flexible) c.loop-i.flexible-lines c.loop-i.i _ lt' second inv.3,
+      length-set c.loop-i.generic_lines c.loop-i.i _ ∙ inv.0,
+      length-set c.loop-i.flexible_lines c.loop-i.i _ ∙ inv.1,
+      filled_more (entry Generic) c.loop-i.generic_lines c.loop-i.i _ lt first inv.2,
+      filled_more (entry Flexible) c.loop-i.flexible_lines c.loop-i.i _ lt' second inv.3,
     )
 
 pub returns : goal.returns
@@ -33,6 +33,6 @@ returns g c =
     let inv = c.loop-i.invariant in
     let n = length c.args.roster.now in
     let done : n ≤ c.loop-i.i = search rules in (
-      filled_all (entry Generic) c.loop-i.generic-lines n c.loop-i.i inv.0 done inv.2,
-      filled_all (entry Flexible) c.loop-i.flexible-lines n c.loop-i.i inv.1 done inv.3,
+      filled_all (entry Generic) c.loop-i.generic_lines n c.loop-i.i inv.0 done inv.2,
+      filled_all (entry Flexible) c.loop-i.flexible_lines n c.loop-i.i inv.1 done inv.3,
     )

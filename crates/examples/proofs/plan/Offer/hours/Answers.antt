@@ -7,7 +7,7 @@ use Rattle.examples.proofs.plan.Offer.hours.Goals as goal
 pub loop-passed-preserved : goal.loop-passed-preserved
 loop-passed-preserved c = (
   simp length-set c.loop-passed.invariant.0,
-  filled_more (λ k. alike (bid_in c.args.self (k + 1))) _ c.loop-passed.passed _ (alike no_bid) (ap alike c.bid-in-bid.ensures) (omega arith) c.loop-passed.invariant.1,
+  filled_more (λ k. alike (bid_in c.args.self (k + 1))) _ c.loop-passed.passed _ (alike no_bid) (ap alike c.bid_in-bid.ensures) (omega arith) c.loop-passed.invariant.1,
 )
 
 pub returns : goal.returns

@@ -4,4 +4,4 @@ use Rattle.fund.specs.declared.pool.Pool.TheVariants.{Generic, Flexible}
 use Rattle.fund.proofs.journal.Journal.over.Goals as goal
 
 pub invariant_of-result : goal.invariant_of-result
-invariant_of-result c = ((omega arith, omega arith), (omega arith, (kept_none Generic, (kept_none Flexible, tt))))
+invariant_of-result c = record { sized = (omega arith, omega arith); fits = omega arith; generic = kept_none Generic; flexible = kept_none Flexible }

@@ -6,7 +6,7 @@ use Rattle.fund.specs.declared.pool.Pool.TheVariants.{Generic, Flexible}
 use Rattle.fund.proofs.journal.Journal.start_from.Goals as goal
 
 pub invariant_of-self : goal.invariant_of-self
-invariant_of-self c = (c.args.self.now.sized, (omega arith, (kept_none Generic, (kept_none Flexible, tt))))
+invariant_of-self c = record { sized = c.args.self.now.sized; fits = omega arith; generic = kept_none Generic; flexible = kept_none Flexible }
 
 pub bring_forward-requires : goal.bring_forward-requires
 bring_forward-requires c = let j = c.args.self.now in brings_first j.places.len _ j.sized c.requires.0

@@ -18,7 +18,7 @@ index_mut-requires c = omega (arith, place c.args.self.now c.args.posting c.requ
 pub invariant_of-self : goal.invariant_of-self
 invariant_of-self c =
     let e = written c.args.self.now c.args.posting c.requires in
-    (c.args.self.now.sized, (omega (arith, place c.args.self.now c.args.posting c.requires, c.args.self.now.places.ok.0), (rw e c.requires.generic, (rw e c.requires.flexible, tt))))
+    record { sized = c.args.self.now.sized; fits = omega (arith, place c.args.self.now c.args.posting c.requires, c.args.self.now.places.ok.0); generic = rw e c.requires.generic; flexible = rw e c.requires.flexible }
 
 pub returns : goal.returns
 returns c = ap (λ (xs : List Posting). pages xs c.args.self.now.places.len) (written c.args.self.now c.args.posting c.requires)

@@ -1,20 +1,32 @@
 // A month of two resources, and a December with its release, through the public calls.
+use crate::fault::ResourceDay;
+use crate::settlement::Settlement;
+use crate::tables::{LineEntry, LoadEntry, MonthTerms, RosterEntry};
 use assessment::day_result::DayRow;
 use assessment::flexible_rule::FlexibleRule;
 use assessment::generic_rule::GenericRule;
+use assessment::line::{Line, LineState};
 use assessment::submission::{Bid, DaySubmission, HourBids, Showing};
 use assessment::trade_month::TradeMonth;
 use fund::balance_book::BalanceBook;
 use fund::overlay::Overlay;
 use fund::pool::Pool;
-use settlement::fault::ResourceDay;
-use settlement::settlement::Settlement;
-use settlement::tables::{LineEntry, LoadEntry, MonthTerms, RosterEntry};
 
 const ROSTER: [RosterEntry; 2] = [RosterEntry {
     identifier: 7,
     category: 0,
 }; 2];
+
+const NO_LINE: LineEntry = LineEntry {
+    line: Line {
+        obligation: 0,
+        availability: 0,
+        days: 0,
+        state: LineState::Empty,
+        quantity: 0,
+    },
+    cents: 0,
+};
 
 fn terms(year: u32, month: u32, standing: u32) -> MonthTerms {
     MonthTerms {
@@ -59,7 +71,7 @@ type Desk = Settlement<Overlay<BalanceBook>, GenericRule, FlexibleRule>;
 // Opens the month, records both resources on a day, and closes it: the generic charges, rate and payments.
 fn settle(desk: &mut Desk, month: &MonthTerms, day: u32) -> Option<(u64, u64, u64)> {
     let mut rows = [DayRow::Empty; 62];
-    let mut lines = [LineEntry::EMPTY; 4];
+    let mut lines = [NO_LINE; 4];
     desk.open(month, &ROSTER, &mut rows).ok()?;
     let first = ResourceDay { resource: 0, day };
     desk.record(&ROSTER, &mut rows, first, &hundred_megawatts(0))

@@ -1,12 +1,12 @@
 // The shipped books on examples, at their edges.
-use fund::balance_book::BalanceBook;
-use fund::book::{FundBook, LIMIT};
-use fund::every_book::{account_of, make_room};
-use fund::fault::BookFault;
-use fund::journal::Journal;
-use fund::overlay::Overlay;
-use fund::pool::{Pool, Standing};
-use fund::posting::Posting;
+use crate::balance_book::BalanceBook;
+use crate::book::{FundBook, LIMIT};
+use crate::every_book::{account_of, make_room};
+use crate::fault::BookFault;
+use crate::journal::Journal;
+use crate::overlay::Overlay;
+use crate::pool::{Pool, Standing};
+use crate::posting::Posting;
 use std::process::Abort;
 use std::test::Fail;
 

@@ -1,14 +1,14 @@
 // Known figures and limits at their edges, through the public calls.
-use assessment::category::Category;
-use assessment::day::assess_day;
-use assessment::day_record::DayRecord;
-use assessment::day_result::{DayFigures, DayRow, PoolFigures};
-use assessment::flexible_rule::FlexibleRule;
-use assessment::generic_rule::GenericRule;
-use assessment::month::month_lines;
-use assessment::settings::MonthSettings;
-use assessment::submission::{Bid, DayBreach, DaySubmission, HourBids, Showing};
-use assessment::trade_month::TradeMonth;
+use crate::category::Category;
+use crate::day::assess_day;
+use crate::day_record::DayRecord;
+use crate::day_result::{DayFigures, DayRow, PoolFigures};
+use crate::flexible_rule::FlexibleRule;
+use crate::generic_rule::GenericRule;
+use crate::month::month_lines;
+use crate::settings::MonthSettings;
+use crate::submission::{Bid, DayBreach, DaySubmission, HourBids, Showing};
+use crate::trade_month::TradeMonth;
 use std::test::Fail;
 
 const JUNE: TradeMonth = TradeMonth {
