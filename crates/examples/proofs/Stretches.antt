@@ -1,7 +1,6 @@
 -- The plan of a day, looked for stretch by stretch.
-use Rattle.std.proofs.Common.{◌≡◌, ℕ, ◌+◌, ◌<◌, ◌≤◌, Bool, true, false, cond, List, length, get_or, drop, Some, None, Option, sym, ap, ◌∙◌}
+use Rattle.std.proofs.Common.{◌≡◌, ℕ, ◌+◌, ◌<◌, ◌≤◌, true, false, cond, List, length, get_or, drop, Some, None, sym, ap, ◌∙◌}
 use Rattle.std.proofs.lemmas.List.{at_drop_more, at_drop_all}
-use Rattle.examples.specs.declared.plan.Plan.{Plan}
 use Rattle.examples.specs.declared.stretch.Stretch.{Stretch}
 use Rattle.examples.specs.Months.{covers, plan_on}
 

@@ -1,5 +1,7 @@
 // Works published examples of availability assessment through the library, and
 // prints each figure beside the published one.
+#![tactic(auto)]
+
 mod comparison;
 mod day_examples;
 mod month_examples;

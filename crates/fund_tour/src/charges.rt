@@ -30,7 +30,7 @@ impl TellsAmount for Charge {
 
 // Posts the pool's charges in, as one amount. A total of more than 64 bits is above any limit, and is refused as that.
 pub fn collect<B: FundBook>(book: &mut B, charges: &[Charge], pool: Pool) -> Result<(), BookFault>
-    ensures { MatchResult result (λ _. Taken means (state book.old) (state book.new) (posts_in pool (sum_by (charged pool) charges.now))) (λ e. Refuses means (state book.old) (posts_in pool (sum_by (charged pool) charges.now)) e × (book.new ≡ book.old)) }
+    ensures { MatchResult result (λ _. Taken B.means (B.state book.old) (B.state book.new) (posts_in pool (sum_by (charged pool) charges.now))) (λ e. Refuses B.means (B.state book.old) (posts_in pool (sum_by (charged pool) charges.now)) e × (book.new ≡ book.old)) }
 {
     let amount = u64::try_from(total(charges, pool)).unwrap_or(u64::MAX);
     book.post_in(pool, amount)

@@ -1,4 +1,6 @@
 // A worked fund: a balance book, a journal that fills and is ruled off, and an advisory month over it.
+#![tactic(auto)]
+
 mod charges;
 
 use anyhow::anyhow;

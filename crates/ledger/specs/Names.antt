@@ -2,6 +2,8 @@
 use Rattle.std.specs.Prelude.{ℕ, ◌%◌, Bool, true, false, cond, List, codes, ◌==◌}
 use Rattle.fund.specs.declared.pool.Pool.{Pool}
 use Rattle.fund.specs.declared.pool.Pool.TheVariants.{Generic, Flexible}
+use Rattle.fund.specs.declared.pool.Standing.{Standing}
+use Rattle.fund.specs.declared.pool.Standing.TheVariants.{Binding, Advisory}
 use Rattle.ledger.specs.declared.verbs.Verb.{Verb}
 use Rattle.ledger.specs.declared.verbs.Verb.TheVariants.{Start, Roster, Tables, Row, Open, Record, Close, Release}
 
@@ -26,6 +28,16 @@ sets_up Open = false
 sets_up Record = false
 sets_up Close = false
 sets_up Release = false
+
+-- the word of each standing
+abbrev pub standing_word : Standing → List ℕ
+standing_word Binding = codes "BINDING"
+standing_word Advisory = codes "ADVISORY"
+
+-- G and F
+abbrev pub pool_letter : Pool → ℕ
+pool_letter Generic = 71
+pool_letter Flexible = 70
 
 -- the pool of entry i of the line table: by turns, generic first
 abbrev pub pool_at : ℕ → Pool

@@ -1,17 +1,35 @@
 // What is printed: the answers to calls, a line each.
 ghost use Rattle.std.specs.Prelude.{◌≡◌};
-ghost use Rattle.ledger.specs.Names.{pool_at};
+ghost use Rattle.ledger.specs.Names.{standing_word, pool_letter, pool_at};
 
 use assessment::day_result::DayFigures;
 use assessment::rule::AvailabilityRule;
 use fund::book::FundBook;
 use fund::fault::BookFault;
 use fund::per_pool::PerPool;
-use fund::pool::Pool;
+use fund::pool::{Pool, Standing};
 use settlement::fault::{FaultPlace, SettlementFault};
 use settlement::settlement::Settlement;
 use settlement::tables::{LineEntry, LoadEntry, PoolClose};
 use std::io;
+
+fn standing_word(standing: Standing) -> &'static str
+    ensures { result.now ≡ standing_word standing }
+{
+    match standing {
+        Standing::Binding => "BINDING",
+        Standing::Advisory => "ADVISORY",
+    }
+}
+
+fn pool_letter(pool: Pool) -> char
+    ensures { result ≡ pool_letter pool }
+{
+    match pool {
+        Pool::Generic => 'G',
+        Pool::Flexible => 'F',
+    }
+}
 
 // The pool of an entry of the line table: generic first.
 fn pool_at(entry: usize) -> Pool
@@ -44,7 +62,7 @@ pub(crate) fn refused(rt: &HostRuntime, fault: SettlementFault) -> io::Result<()
     match label.place {
         FaultPlace::Nowhere => println!(rt; "REFUSED {number} {layer}"),
         FaultPlace::InPool(pool) => {
-            println!(rt; "REFUSED {number} {layer} {}", char::from(pool.letter()))
+            println!(rt; "REFUSED {number} {layer} {}", pool_letter(pool))
         }
         FaultPlace::OnDay(at) => {
             println!(rt; "REFUSED {number} {layer} {} {}", at.resource, at.day)
@@ -59,7 +77,7 @@ pub(crate) fn refused_start(rt: &HostRuntime, fault: BookFault) -> io::Result<()
 
 fn line(rt: &HostRuntime, at: usize, entry: &LineEntry) -> io::Result<()> {
     let resource = at / 2;
-    let pool = char::from(pool_at(at).letter());
+    let pool = pool_letter(pool_at(at));
     let line = entry.line;
     print!(rt;
         "LINE {resource} {pool} {} {} {} ",
@@ -72,7 +90,7 @@ fn line(rt: &HostRuntime, at: usize, entry: &LineEntry) -> io::Result<()> {
 fn pool_line(rt: &HostRuntime, pool: Pool, close: PoolClose) -> io::Result<()> {
     println!(rt;
         "POOL {} {} {} {}",
-        char::from(pool.letter()),
+        pool_letter(pool),
         close.charges,
         close.rate,
         close.payments
@@ -105,7 +123,7 @@ pub(crate) fn fund<B: FundBook, G: AvailabilityRule, F: AvailabilityRule>(
     rt: &HostRuntime,
     settlement: &Settlement<B, G, F>,
 ) -> io::Result<()> {
-    let standing = settlement.standing().word();
+    let standing = standing_word(settlement.standing());
     let generic = settlement.account(Pool::Generic);
     let flexible = settlement.account(Pool::Flexible);
     let places = settlement.free_places();

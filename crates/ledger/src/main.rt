@@ -1,4 +1,6 @@
 // Drives a settlement by a script of calls on standard input, and answers each on standard output.
+#![tactic(auto)]
+
 mod answers;
 mod books;
 mod calls;
@@ -18,6 +20,7 @@ use fund::overlay::Overlay;
 use line_fault::{LineFault, Stop};
 use script::{ScriptLine, script_lines};
 use std::io;
+use std::process::ExitCode;
 
 fn book_plan(rt: &HostRuntime, start: &ScriptLine<'_>) -> Result<BookPlan, Stop> {
     match parse(rt.alloc(), start.text) {
@@ -80,12 +83,12 @@ fn run(rt: &HostRuntime) -> Result<(), Stop> {
     run_lines(rt, lines.as_slice())
 }
 
-fn main(rt: HostRuntime) -> Result<(), Stop> {
+fn main(rt: HostRuntime) -> ExitCode {
     match run(&rt) {
-        Ok(()) => Ok(()),
+        Ok(()) => ExitCode::SUCCESS,
         Err(stop) => {
-            let _ = rt.eprintln(&stop);
-            Err(stop)
+            let _ = eprintln!(rt; "{stop}");
+            ExitCode::FAILURE
         }
     }
 }

@@ -1,5 +1,5 @@
 -- Lines are priced as they say, and none is paid or charged above its ceiling.
-use Rattle.std.proofs.Common.{◌≡◌, ℕ, ◌+◌, ◌*◌, ◌/◌, ◌≤◌, refl, mul-le-mul_right, mul-le-mul_left, div-mul-le_self, arith}
+use Rattle.std.proofs.Common.{◌≡◌, ℕ, ◌*◌, ◌/◌, ◌≤◌, refl, mul-le-mul_right, mul-le-mul_left, div-mul-le_self, arith}
 use Rattle.assessment.specs.Laws.{LineLaw}
 use Rattle.assessment.specs.declared.line.Line.{Line}
 use Rattle.settlement.specs.Closing.{charged_entry, paid_entry}

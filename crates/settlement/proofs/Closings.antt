@@ -1,5 +1,5 @@
 -- A taken close, from its parts.
-use Rattle.std.proofs.Common.{◌≡◌, ℕ, ◌+◌, ◌≤◌, List, sym, ap, ◌∙◌, subst, arith}
+use Rattle.std.proofs.Common.{◌≡◌, ℕ, ◌≤◌, List, sym, ap, ◌∙◌, subst}
 use Rattle.assessment.specs.Days.{Rules}
 use Rattle.assessment.specs.declared.trade_month.TradeMonth.{TradeMonth}
 use Rattle.assessment.specs.declared.day_result.DayRow.{DayRow}

@@ -17,7 +17,7 @@ use Rattle.settlement.specs.Tables.{places_of}
 use Rattle.settlement.specs.Recording.{place_of}
 use Rattle.settlement.specs.Closing.{line_at}
 use Rattle.settlement.specs.Runs.{DayTaken, MonthRun}
-use Rattle.settlement.specs.Accounts.{figures_in, figures_for, if_of, worked_line}
+use Rattle.settlement.specs.Accounts.{figures_for, if_of, worked_line}
 
 -- a figure over the 31 places of a resource, and over its records
 abbrev in_places : (DayFigures → ℕ) → List DayRow → ℕ → ℕ

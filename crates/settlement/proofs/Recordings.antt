@@ -1,9 +1,8 @@
 -- A taken record, from its tests.
 use Rattle.std.proofs.Common.{◌≡◌, ℕ, ◌≤◌, List, set, Ok, sym, ap, ◌∙◌, subst}
 use Rattle.assessment.specs.Calendar.{days_of}
-use Rattle.assessment.specs.Days.{Rules, DayCase, day_case, day_figures}
+use Rattle.assessment.specs.Days.{Rules, day_case, day_figures}
 use Rattle.assessment.specs.Records.{FlexibleAllowed}
-use Rattle.assessment.specs.declared.trade_month.TradeMonth.{TradeMonth}
 use Rattle.assessment.specs.declared.settings.MonthSettings.{MonthSettings}
 use Rattle.assessment.specs.declared.settings.TradeDay.{TradeDay}
 use Rattle.assessment.specs.declared.submission.DaySubmission.{DaySubmission}
@@ -11,7 +10,7 @@ use Rattle.assessment.specs.declared.day_record.DayRecord.{DayRecord}
 use Rattle.assessment.specs.declared.day_result.DayFigures.{DayFigures}
 use Rattle.assessment.specs.declared.day_result.DayRow.{DayRow}
 use Rattle.assessment.specs.declared.day_result.DayRow.TheVariants.{Recorded}
-use Rattle.settlement.specs.Recording.{place_of, IsOpen, HasDay, InRoster, IsFree, DayWithin, figures_of, MayTakeDay, Records}
+use Rattle.settlement.specs.Recording.{place_of, IsOpen, HasDay, InRoster, IsFree, DayWithin, figures_of, Records}
 use Rattle.settlement.specs.Tables.{category_of, DaysFit}
 use Rattle.settlement.specs.Views.{Phase, open_at}
 use Rattle.settlement.specs.declared.fault.ResourceDay.{ResourceDay}

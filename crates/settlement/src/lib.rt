@@ -1,4 +1,6 @@
 // The settlement of the two pools' months over any fund book and any two availability rules.
+#![tactic(auto)]
+
 pub mod amounts;
 mod checks;
 mod closes;

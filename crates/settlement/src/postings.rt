@@ -22,9 +22,9 @@ const RELEASE_POSTINGS: usize = 2;
 
 // Zero is not posted.
 fn post_in<B: FundBook>(book: &mut B, pool: Pool, amount: u64) -> Result<(), BookFault>
-    requires place { 0 < means.free (state book.old) }
-    requires room { means.shown (state book.old) pool + amount ≤ limit }
-    ensures { MatchResult result (λ _. state book.new ≡ posted_in means (state book.old) pool amount) (λ _. ⊥) }
+    requires place { 0 < B.means.free (B.state book.old) }
+    requires room { B.means.shown (B.state book.old) pool + amount ≤ limit }
+    ensures { MatchResult result (λ _. B.state book.new ≡ posted_in B.means (B.state book.old) pool amount) (λ _. ⊥) }
 {
     if amount > 0 {
         book.post_in(pool, amount)?;
@@ -33,9 +33,9 @@ fn post_in<B: FundBook>(book: &mut B, pool: Pool, amount: u64) -> Result<(), Boo
 }
 
 fn post_out<B: FundBook>(book: &mut B, pool: Pool, amount: u64) -> Result<(), BookFault>
-    requires place { 0 < means.free (state book.old) }
-    requires covered { amount ≤ means.shown (state book.old) pool }
-    ensures { MatchResult result (λ _. state book.new ≡ posted_out means (state book.old) pool amount) (λ _. ⊥) }
+    requires place { 0 < B.means.free (B.state book.old) }
+    requires covered { amount ≤ B.means.shown (B.state book.old) pool }
+    ensures { MatchResult result (λ _. B.state book.new ≡ posted_out B.means (B.state book.old) pool amount) (λ _. ⊥) }
 {
     if amount > 0 {
         book.post_out(pool, amount)?;
@@ -44,9 +44,9 @@ fn post_out<B: FundBook>(book: &mut B, pool: Pool, amount: u64) -> Result<(), Bo
 }
 
 fn post_pool<B: FundBook>(book: &mut B, pool: Pool, close: PoolClose) -> Result<(), BookFault>
-    requires places { 2 ≤ means.free (state book.old) }
-    requires funded { Funded means (state book.old) pool close }
-    ensures { MatchResult result (λ _. state book.new ≡ posted means (state book.old) pool close) (λ _. ⊥) }
+    requires places { 2 ≤ B.means.free (B.state book.old) }
+    requires funded { Funded B.means (B.state book.old) pool close }
+    ensures { MatchResult result (λ _. B.state book.new ≡ posted B.means (B.state book.old) pool close) (λ _. ⊥) }
 {
     post_in(book, pool, close.charges)?;
     post_out(book, pool, close.payments)
@@ -57,9 +57,9 @@ pub(crate) fn post_month<B: FundBook>(
     book: &mut B,
     pools: PerPool<PoolClose>,
 ) -> Result<(), BookFault>
-    requires generic { Funded means (state book.old) Generic pools.generic }
-    requires flexible { Funded means (state book.old) Flexible pools.flexible }
-    ensures { MatchResult result (λ _. state book.new ≡ month_posted means (state book.old) pools) (λ _. ⊥) }
+    requires generic { Funded B.means (B.state book.old) Generic pools.generic }
+    requires flexible { Funded B.means (B.state book.old) Flexible pools.flexible }
+    ensures { MatchResult result (λ _. B.state book.new ≡ month_posted B.means (B.state book.old) pools) (λ _. ⊥) }
 {
     make_room(book, CLOSE_POSTINGS);
     post_pool(book, Pool::Generic, pools.generic)?;
@@ -69,8 +69,8 @@ pub(crate) fn post_month<B: FundBook>(
 
 // Makes room for two postings, then posts out what is released of each pool, generic first.
 pub(crate) fn post_release<B: FundBook>(book: &mut B, loads: &[LoadEntry]) -> Result<(), BookFault>
-    requires { (p : Pool) → load_told (Share p) loads.now ≤ means.shown (state book.old) p }
-    ensures { MatchResult result (λ _. state book.new ≡ shares_posted means (state book.old) loads.now) (λ _. ⊥) }
+    requires { (p : Pool) → load_told (Share p) loads.now ≤ B.means.shown (B.state book.old) p }
+    ensures { MatchResult result (λ _. B.state book.new ≡ shares_posted B.means (B.state book.old) loads.now) (λ _. ⊥) }
 {
     make_room(book, RELEASE_POSTINGS);
     let generic = total(loads, LoadAmount::Share(Pool::Generic));

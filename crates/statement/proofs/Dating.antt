@@ -12,10 +12,10 @@ use Rattle.statement.specs.Reading.{as_day}
 use Rattle.statement.specs.Settling.{recorded, days_from, days_part}
 use Rattle.statement.specs.declared.fault.Located.{Located}
 use Rattle.statement.specs.declared.fault.ReaderFault.{ReaderFault}
-use Rattle.statement.specs.declared.fault.StatementFault.TheVariants.{Reader, Settlement}
+use Rattle.statement.specs.declared.fault.StatementFault.TheVariants.{Reader}
 use Rattle.statement.specs.declared.records.FileRecord.{FileRecord}
 use Rattle.statement.specs.declared.records.SubmittedDay.{SubmittedDay}
-use Rattle.statement.proofs.Parsed.{records_at, records_none, rest_of, rest_day, placed_err}
+use Rattle.statement.proofs.Parsed.{records_at, records_none, rest_day, placed_err}
 
 module _ (t : MonthTerms) (roster : List RosterEntry) (rows : List DayRow) where
   days_none : (at : ℕ) → days_from t roster rows at [] ≡ Ok (days_part rows at)

@@ -1,9 +1,9 @@
 -- The tests of a month's terms and of a day decide the limits that the settlement states.
-use Rattle.std.proofs.Common.{◌≡◌, ℕ, suc, ◌/◌, ◌^◌, ◌<◌, ◌≤◌, Bool, true, false, not, ◌&&◌, ◌||◌, eqb, ltb, leb, Decides, sym, refl, ap, ◌∙◌, arith}
-use Rattle.std.proofs.lemmas.Bool.{leb-true, le-leb, eqb-true, eq-eqb, ne_eqb, cases_eq, both_ways}
+use Rattle.std.proofs.Common.{◌≡◌, ℕ, ◌/◌, ◌^◌, ◌≤◌, Bool, true, false, leb, Decides, refl, arith}
+use Rattle.std.proofs.lemmas.Bool.{leb-true, le-leb}
 use Rattle.std.proofs.lemmas.Bool.Decides.{Decides-eqb, Decides-and, Decides-like, Decides-below_and, nat_tests}
-use Rattle.assessment.specs.Calendar.{days_of, DateWithin, MarksWithin, WindowsWithin, MonthWithin}
-use Rattle.assessment.specs.Records.{ShowingWithin, HourWithin, BidsWithin, FlexibleAllowed, bids_after}
+use Rattle.assessment.specs.Calendar.{days_of, DateWithin, WindowsWithin}
+use Rattle.assessment.specs.Records.{HourWithin, BidsWithin, FlexibleAllowed, bids_after}
 use Rattle.assessment.specs.declared.trade_month.TradeMonth.{TradeMonth}
 use Rattle.assessment.specs.declared.submission.HourBids.{HourBids}
 use Rattle.assessment.specs.declared.submission.Showing.{Showing}
@@ -11,7 +11,7 @@ use Rattle.assessment.specs.declared.submission.DaySubmission.{DaySubmission}
 use Rattle.settlement.specs.Opening.{TermsWithin}
 use Rattle.settlement.specs.Recording.{DayWithin}
 use Rattle.settlement.specs.declared.tables.MonthTerms.{MonthTerms}
-use Rattle.statement.specs.Settling.{between, date_within, marks_within, windows_within, terms_within, kilowatts, showing_within, hour_within, hours_within, day_within, flexible_allowed}
+use Rattle.statement.specs.Settling.{between, date_within, windows_within, terms_within, showing_within, hour_within, hours_within, day_within, flexible_allowed}
 
 -- a test is false where what it decides is refuted
 pub refuted : {P : Type 0} (b : Bool) → Decides b P → (P → ⊥) → b ≡ false

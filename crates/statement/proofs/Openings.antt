@@ -1,5 +1,5 @@
 -- A settlement's open and close are the definition's.
-use Rattle.std.proofs.Common.{◌≡◌, ℕ, ◌<◌, ◌≤◌, true, false, List, length, replicate, Ok, Err, Result, sym, refl, ap, ◌∙◌, subst, arith}
+use Rattle.std.proofs.Common.{◌≡◌, ℕ, List, length, replicate, Ok, Err, Result, refl, ◌∙◌, subst, arith}
 use Rattle.std.proofs.lemmas.Bool.{true≢false, le-leb, lt-leb}
 use Rattle.assessment.specs.declared.day_result.DayRow.{DayRow}
 use Rattle.assessment.specs.declared.day_result.DayRow.TheVariants as row
@@ -23,7 +23,7 @@ use Rattle.settlement.specs.declared.tables.MonthTerms.{MonthTerms}
 use Rattle.settlement.specs.declared.tables.RosterEntry.{RosterEntry}
 use Rattle.settlement.specs.declared.tables.LineEntry.{LineEntry}
 use Rattle.settlement.specs.declared.tables.PoolClose.{PoolClose}
-use Rattle.statement.specs.Settling.{MonthStatement, pool_book, pool_rules, terms_within, opens, open_view, closed_month, fund_in}
+use Rattle.statement.specs.Settling.{pool_book, pool_rules, terms_within, opens, open_view, closed_month, fund_in}
 use Rattle.statement.proofs.Limits.{refuted, decides_terms}
 use Rattle.statement.proofs.Recorded.{met, unmet}
 

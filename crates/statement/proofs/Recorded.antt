@@ -1,5 +1,5 @@
 -- A settlement's record of a day is the definition's, and keeps every row within its limits.
-use Rattle.std.proofs.Common.{◌≡◌, ℕ, ◌+◌, ◌*◌, ◌<◌, ◌≤◌, min, max, Bool, true, false, cond, ◌≢◌, List, [], ◌∷◌, length, get_or, set, Ok, Err, Result, sym, refl, ap, ◌∙◌, subst, inl, inr, arith, length-set}
+use Rattle.std.proofs.Common.{◌≡◌, ℕ, Bool, true, false, List, length, set, Ok, Err, Result, sym, refl, ap, ◌∙◌, subst, inl, inr, arith, length-set}
 use native.Mathlib.Nat.{min-le_left, min-le_right}
 use Rattle.std.proofs.lemmas.List.{get_or-set_same, get_or-set_other}
 use Rattle.std.proofs.lemmas.Bool.{lt-ltb, le-ltb, cases_eq}
@@ -12,7 +12,7 @@ use Rattle.assessment.specs.declared.day_result.DayRow.{DayRow}
 use Rattle.assessment.specs.declared.day_result.DayRow.TheVariants as row
 use Rattle.settlement.specs.Recording as recording
 use Rattle.settlement.specs.Recording.{place_of, figures_of}
-use Rattle.settlement.specs.Tables.{category_of, DaysFit, EachRowWithin}
+use Rattle.settlement.specs.Tables.{DaysFit, EachRowWithin}
 use Rattle.settlement.specs.Views.{open_at}
 use Rattle.settlement.specs.declared.fault.ResourceDay.{ResourceDay}
 use Rattle.settlement.specs.declared.fault.SettlementFault.{SettlementFault}

@@ -1,9 +1,8 @@
 -- Days come in any order.
-use Rattle.std.proofs.Common.{◌≡◌, ℕ, ◌+◌, ◌*◌, ◌<◌, ◌≤◌, Bool, true, false, cond, eqb, ◌≢◌, List, [], ◌∷◌, ◌++◌, length, get_or, set, Some, None, Ok, Err, Option, Result, sym, refl, ap, ◌∙◌, subst, arith, length-set}
+use Rattle.std.proofs.Common.{◌≡◌, ℕ, ◌+◌, ◌*◌, ◌<◌, Bool, true, false, cond, eqb, ◌≢◌, List, [], ◌∷◌, ◌++◌, length, get_or, set, Some, None, Ok, Err, Option, Result, sym, refl, ap, ◌∙◌, subst, arith, length-set}
 use lib.ListN.{length-replicate}
 use Rattle.std.proofs.lemmas.List.{get_or-set_same, get_or-set_other, set_comm}
 use Rattle.assessment.proofs.LineLaws.{days_few}
-use Rattle.assessment.specs.declared.day_result.DayFigures.{DayFigures}
 use Rattle.assessment.specs.declared.day_result.DayRow.{DayRow}
 use Rattle.assessment.specs.declared.day_result.DayRow.TheVariants as row
 use Rattle.settlement.specs.Recording.{place_of, figures_of, MayTakeDay}
@@ -22,7 +21,7 @@ use Rattle.statement.specs.declared.fault.ReaderFault.TheVariants.{Misplaced}
 use Rattle.statement.specs.declared.fault.StatementFault.{StatementFault}
 use Rattle.statement.specs.declared.records.FileRecord.TheVariants.{Month, Resource, Day}
 use Rattle.statement.specs.declared.records.SubmittedDay.{SubmittedDay}
-use Rattle.statement.proofs.Accounted.{not_taken, required, parts, same_ok, recorded_taken, listed_fits}
+use Rattle.statement.proofs.Accounted.{not_taken, parts, same_ok, recorded_taken, listed_fits}
 use Rattle.statement.proofs.Recorded.{recorded_is}
 
 module _ (t : MonthTerms) (roster : List RosterEntry) where

@@ -10,9 +10,9 @@ use Rattle.statement.specs.Reading.{as_resource}
 use Rattle.statement.specs.Rosters.{enrolled}
 use Rattle.statement.specs.declared.fault.Located.{Located}
 use Rattle.statement.specs.declared.fault.ReaderFault.{ReaderFault}
-use Rattle.statement.specs.declared.fault.StatementFault.TheVariants.{Reader, Settlement}
+use Rattle.statement.specs.declared.fault.StatementFault.TheVariants.{Reader}
 use Rattle.statement.specs.declared.records.FileRecord.{FileRecord}
-use Rattle.statement.proofs.Parsed.{records_at, records_none, rest_of, rest_resource, placed_err}
+use Rattle.statement.proofs.Parsed.{records_at, records_none, rest_resource, placed_err}
 
 from_reader : (roster : List RosterEntry) (at : ℕ) (r : Result FileRecord ReaderFault) (rs : Records) (f : ReaderFault) → as_resource (length roster) r ≡ Err f → roster_from roster at (r ∷ rs) ≡ Err (reader_fault f at)
 unfolding roster_from

@@ -1,5 +1,5 @@
 -- A month file settled part by part.
-use Rattle.std.proofs.Common.{◌≡◌, ℕ, zero, suc, ◌-◌, ◌*◌, ◌<◌, ◌≤◌, List, [], ◌∷◌, ◌++◌, length, get_or, take, drop, replicate, Ok, Err, Result, sym, refl, ap, ◌∙◌, subst, inl, inr, arith}
+use Rattle.std.proofs.Common.{◌≡◌, ℕ, zero, suc, ◌-◌, ◌*◌, ◌<◌, ◌≤◌, List, [], ◌∷◌, length, get_or, take, drop, replicate, Ok, Err, Result, sym, refl, ap, ◌∙◌, subst, inl, inr, arith}
 use Rattle.std.proofs.lemmas.Bool.{cases_eq}
 use Rattle.std.proofs.lemmas.List.{length-replicate, length-take-le, length-drop}
 use Rattle.assessment.specs.Lines.{RowWithin}
@@ -20,7 +20,7 @@ use Rattle.settlement.specs.declared.tables.MonthTerms.{MonthTerms}
 use Rattle.settlement.specs.declared.tables.RosterEntry.{RosterEntry}
 use Rattle.settlement.specs.declared.tables.LineEntry.{LineEntry}
 use Rattle.statement.specs.Answers.{and_then, Answers}
-use Rattle.statement.specs.Files.{Records, records_of, MonthPart, RosterPart, month_part, roster_from, reader_fault, settlement_fault}
+use Rattle.statement.specs.Files.{Records, records_of, RosterPart, month_part, roster_from, reader_fault, settlement_fault}
 use Rattle.statement.specs.Layout.{record_of}
 use Rattle.statement.specs.Located.{placed}
 use Rattle.statement.specs.Months.{OpensMonth, ClosesMonth}
@@ -33,7 +33,7 @@ use Rattle.statement.specs.declared.fault.StatementFault.{StatementFault}
 use Rattle.statement.specs.declared.fault.StatementFault.TheVariants.{Reader}
 use Rattle.statement.specs.declared.month.PoolsClosed.{PoolsClosed}
 use Rattle.statement.specs.declared.records.FileRecord.{FileRecord}
-use Rattle.statement.proofs.Parsed.{records_none, records_some, rest_of, rest_month, placed_err, placed_ok}
+use Rattle.statement.proofs.Parsed.{records_none, records_some, rest_month, placed_err}
 
 -- an answer that opens or closes the month, at what it is
 pub opens_ok : (t : MonthTerms) (r : Result (Settlement (Overlay BalanceBook) GenericRule FlexibleRule) SettlementFault) (s : Settlement (Overlay BalanceBook) GenericRule FlexibleRule) → r ≡ Ok s → OpensMonth t r → (opens t ≡ Ok tt) × (view (overlaid_of balances_of) s ≡ open_view t)

@@ -1,15 +1,18 @@
 -- The lines of a statement and of a refusal, as bytes: decimal fields parted by one space, and a line feed at the end.
-use Rattle.std.specs.Prelude.{ℕ, cond, List, [], ◌∷◌, ◌++◌, codes, decimal, nat_lt}
+use Rattle.std.specs.Prelude.{ℕ, cond, List, [], ◌∷◌, ◌++◌, codes, decimal, ◌==◌, nat_lt}
 use Rattle.assessment.specs.Lines.{letter}
-use Rattle.fund.specs.Names as names
-use Rattle.fund.specs.Names.{pool_letter}
 use Rattle.fund.specs.declared.pool.Pool.{Pool}
-use Rattle.settlement.specs.Opening.{standing_of}
+use Rattle.fund.specs.declared.pool.Pool.TheVariants.{Generic, Flexible}
 use Rattle.settlement.specs.declared.tables.MonthTerms.{MonthTerms}
 use Rattle.settlement.specs.declared.tables.LineEntry.{LineEntry}
 use Rattle.settlement.specs.declared.tables.PoolClose.{PoolClose}
 use Rattle.statement.specs.Faults.{label}
 use Rattle.statement.specs.declared.fault.StatementFault.{StatementFault}
+
+-- G and F
+abbrev pub pool_letter : Pool → ℕ
+pool_letter Generic = 71
+pool_letter Flexible = 70
 
 -- a number below 100 in two digits
 unfoldable pub two_digits : ℕ → List ℕ
@@ -17,7 +20,7 @@ two_digits n = cond (nat_lt n 10) (codes "0" ++ decimal n) (decimal n)
 
 -- 0 is binding, any other number advisory
 unfoldable pub standing_word : ℕ → List ℕ
-standing_word n = names.standing_word (standing_of n)
+standing_word n = cond (n == 0) (codes "BINDING") (codes "ADVISORY")
 
 -- month and standing
 abbrev pub header_row : MonthTerms → List ℕ

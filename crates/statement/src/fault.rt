@@ -51,7 +51,7 @@ impl From<Located<SettlementFault>> for StatementFault {
 }
 
 // The same answer, with a fault told at the offset.
-pub(crate) fn at_offset<T, F>(answer: Result<T, F>, offset: usize) -> Result<T, Located<F>>
+pub fn at_offset<T, F>(answer: Result<T, F>, offset: usize) -> Result<T, Located<F>>
     ensures { result ≡ placed answer offset }
 {
     match answer {

@@ -7,7 +7,7 @@ use crate::fault::{ReaderFault, RefusalLabel, StatementFault};
 const LAYER: char = 'R';
 
 impl StatementFault {
-    pub(crate) fn label(self) -> RefusalLabel
+    pub fn label(self) -> RefusalLabel
         ensures { result ≡ label self }
     {
         match self {

@@ -1,4 +1,6 @@
 // The statement of a month: a month file is read, settled and printed, or refused in one line.
+#![tactic(auto)]
+
 mod fault;
 pub mod job;
 mod labels;

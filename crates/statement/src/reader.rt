@@ -117,7 +117,7 @@ fn read_day(rest: &[u8]) -> Result<FileRecord, ReaderFault>
 }
 
 // The record that the bytes begin with: its first word tells its kind.
-pub(crate) fn next_record(bytes: &[u8]) -> Result<FileRecord, ReaderFault>
+pub fn next_record(bytes: &[u8]) -> Result<FileRecord, ReaderFault>
     ensures value { result ≡ record_of bytes.now }
     ensures within { IfOk result (λ x. size_of x ≤ length bytes.now) }
 {
@@ -133,7 +133,7 @@ pub(crate) fn next_record(bytes: &[u8]) -> Result<FileRecord, ReaderFault>
 }
 
 // The month record that the bytes begin with.
-pub(crate) fn month_record(bytes: &[u8]) -> Result<MonthTerms, ReaderFault>
+pub fn month_record(bytes: &[u8]) -> Result<MonthTerms, ReaderFault>
     ensures value { result ≡ as_month (record_of bytes.now) }
     ensures within { OnOk result (36 ≤ length bytes.now) }
 {
@@ -144,7 +144,7 @@ pub(crate) fn month_record(bytes: &[u8]) -> Result<MonthTerms, ReaderFault>
 }
 
 // The resource of this number that the bytes begin with; None where the days begin.
-pub(crate) fn roster_record(bytes: &[u8], number: usize) -> Result<Option<RosterEntry>, ReaderFault>
+pub fn roster_record(bytes: &[u8], number: usize) -> Result<Option<RosterEntry>, ReaderFault>
     ensures value { result ≡ as_resource number (record_of bytes.now) }
     ensures within { OnOk result (16 ≤ length bytes.now) }
 {
@@ -158,7 +158,7 @@ pub(crate) fn roster_record(bytes: &[u8], number: usize) -> Result<Option<Roster
 }
 
 // The day record that the bytes begin with.
-pub(crate) fn day_record(bytes: &[u8]) -> Result<SubmittedDay, ReaderFault>
+pub fn day_record(bytes: &[u8]) -> Result<SubmittedDay, ReaderFault>
     ensures value { result ≡ as_day (record_of bytes.now) }
     ensures within { OnOk result (412 ≤ length bytes.now) }
 {

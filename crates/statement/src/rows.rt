@@ -1,12 +1,21 @@
 // The lines of a statement, and the line of a refusal.
 ghost use Rattle.std.specs.Prelude.{◌≡◌, ◌+◌, ◌<◌, ◌≤◌, ◌++◌};
 ghost use Rattle.statement.specs.Text.{text, size};
-ghost use Rattle.statement.specs.Rows.{two_digits, standing_word, header_row, line_row, pool_row, letter_byte, refusal_row};
+ghost use Rattle.statement.specs.Rows.{pool_letter, two_digits, standing_word, header_row, line_row, pool_row, letter_byte, refusal_row};
 
 use crate::fault::StatementFault;
 use crate::line::PrintedLine;
 use fund::pool::Pool;
 use settlement::tables::{LineEntry, MonthTerms, PoolClose};
+
+fn pool_letter(pool: Pool) -> u8
+    ensures { result ≡ pool_letter pool }
+{
+    match pool {
+        Pool::Generic => b'G',
+        Pool::Flexible => b'F',
+    }
+}
 
 fn put_two_digits(line: &mut PrintedLine, n: u32)
     requires { size line.old + 21 ≤ 96 }
@@ -53,7 +62,7 @@ pub(crate) fn line_row(resource: usize, pool: Pool, entry: &LineEntry) -> Printe
     let mut line = PrintedLine::empty();
     line.put_decimal(resource as u64);
     line.put_byte(b' ');
-    line.put_byte(pool.letter());
+    line.put_byte(pool_letter(pool));
     line.put_byte(b' ');
     line.put_decimal(entry.line.obligation);
     line.put_byte(b' ');
@@ -72,7 +81,7 @@ pub(crate) fn pool_row(pool: Pool, close: &PoolClose, shown: u64) -> PrintedLine
 {
     let mut line = PrintedLine::empty();
     line.put_text(b"POOL ");
-    line.put_byte(pool.letter());
+    line.put_byte(pool_letter(pool));
     line.put_byte(b' ');
     line.put_decimal(close.charges);
     line.put_byte(b' ');
@@ -87,14 +96,15 @@ pub(crate) fn pool_row(pool: Pool, close: &PoolClose, shown: u64) -> PrintedLine
 
 // A layer's letter, which is of the ASCII set.
 fn letter_byte(letter: char) -> u8
-    ensures { result ≡ letter_byte letter }
+    ensures ascii { letter < 128 → result ≡ letter }
+    ensures is { result ≡ letter_byte letter }
 {
     let code = letter as u32;
     if code < 128 { code as u8 } else { b'?' }
 }
 
 // A refusal: the fault's number, the letter of its layer, and the byte offset.
-pub(crate) fn refusal_row(fault: StatementFault) -> PrintedLine
+pub fn refusal_row(fault: StatementFault) -> PrintedLine
     ensures { text result ≡ refusal_row fault }
 {
     let label = fault.label();

@@ -16,7 +16,7 @@ impl PrintedLine {
     }
 
     // What is written so far.
-    pub(crate) fn written(&self) -> &[u8]
+    pub fn written(&self) -> &[u8]
         ensures { result.now ≡ text self.now }
     {
         &self.bytes[0..self.len]

@@ -1,4 +1,4 @@
-use Rattle.std.proofs.Common.{◌≡◌, ℕ, ◌<◌, ◌≤◌, length, get_or, sym, ap, ◌∙◌, subst, arith}
+use Rattle.std.proofs.Common.{◌<◌, ◌≤◌, length, sym, ap, ◌∙◌, subst, arith}
 use Rattle.settlement.specs.Closing.{line_tells, paid_entry, no_line}
 use Rattle.settlement.specs.declared.amounts.LineAmount.TheVariants.{EligibleQuantity}
 use Rattle.settlement.specs.declared.tables.LineEntry.{LineEntry}

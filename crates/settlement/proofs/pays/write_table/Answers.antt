@@ -1,4 +1,4 @@
-use Rattle.std.proofs.Common.{◌≡◌, ℕ, ◌+◌, ◌*◌, ◌<◌, ◌≤◌, length, get_or, set, ◌∙◌, arith, length-set, rules}
+use Rattle.std.proofs.Common.{◌+◌, ◌*◌, ◌<◌, ◌≤◌, length, get_or, set, ◌∙◌, arith, length-set, rules}
 use Rattle.settlement.specs.Closing.{no_line}
 use Rattle.settlement.proofs.Writing.{two_more, table_all}
 use Rattle.settlement.proofs.pays.write_table.Goals as goal

@@ -1,4 +1,4 @@
-use Rattle.std.proofs.Common.{◌≡◌, ◌≤◌, ap, ◌∙◌, arith}
+use Rattle.std.proofs.Common.{◌≤◌, ap, ◌∙◌, arith}
 use Rattle.fund.specs.Laws.{with_room}
 use Rattle.fund.specs.declared.pool.Pool.TheVariants.{Generic, Flexible}
 use Rattle.settlement.specs.Closing.{posted_out}

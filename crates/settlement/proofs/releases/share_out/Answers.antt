@@ -1,4 +1,4 @@
-use Rattle.std.proofs.Common.{◌≡◌, ◌<◌, ◌≤◌, length, sym, subst, arith}
+use Rattle.std.proofs.Common.{◌<◌, ◌≤◌, length, sym, subst, arith}
 use Rattle.settlement.specs.Releasing.{shared, no_load}
 use Rattle.settlement.specs.declared.tables.LoadEntry.{LoadEntry}
 use Rattle.settlement.proofs.Writing.{at_rest, over_more, over_all}

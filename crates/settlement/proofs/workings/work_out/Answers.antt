@@ -1,4 +1,4 @@
-use Rattle.std.proofs.Common.{◌≡◌, ℕ, ◌<◌, ◌≤◌, length, ap, ◌∙◌, arith, length-set, rules}
+use Rattle.std.proofs.Common.{ℕ, ◌<◌, ◌≤◌, length, ap, ◌∙◌, arith, length-set}
 use Rattle.assessment.specs.Days.{both}
 use Rattle.assessment.specs.declared.line.MonthLines.{MonthLines}
 use Rattle.fund.specs.declared.pool.Pool.{Pool}

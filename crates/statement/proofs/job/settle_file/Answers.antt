@@ -1,4 +1,4 @@
-use Rattle.std.proofs.Common.{◌≡◌, ◌++◌, sym, refl, ap, ◌∙◌}
+use Rattle.std.proofs.Common.{◌++◌, ap, ◌∙◌}
 use Rattle.std.proofs.lemmas.Result.{IfOk-from_err}
 use Rattle.std.proofs.lemmas.Bool.{false≢true}
 use Rattle.statement.specs.Months.{closed_of}
@@ -8,36 +8,36 @@ use Rattle.statement.proofs.Reordered.{days_in_any_order}
 use Rattle.statement.proofs.Rowing.{output_ok, output_err}
 use Rattle.statement.proofs.job.settle_file.Goals as goal
 
-pub returns-in-err-print-month : goal.returns-in-err-print-month
-returns-in-err-print-month c = record {
-  value = IfOk-from_err c.from-residual.result _ c.from-residual.ensures.0;
-  closed = IfOk-from_err c.from-residual.result _ c.from-residual.ensures.0;
+pub returns-in_err-print_month-in-Ok : goal.returns-in_err-print_month-in-Ok
+returns-in_err-print_month-in-Ok c = record {
+  value = IfOk-from_err c.from_residual.result _ c.from_residual.ensures.0;
+  closed = IfOk-from_err c.from_residual.result _ c.from_residual.ensures.0;
   law = statements_keep_the_law;
   one_line = refused_in_one_line;
   records = records_decide;
   order = days_in_any_order;
 }
 
-pub returns-in-ok-print-month : goal.returns-in-ok-print-month
-returns-in-ok-print-month c =
+pub returns-in_ok-print_month-in-Ok : goal.returns-in_ok-print_month-in-Ok
+returns-in_ok-print_month-in-Ok c =
     let o = output_ok c.args.file.now (closed_of c.in-Ok.month) c.in-Ok.ensures.value in
-    record { value = (c.in-ok-print-month.ensures ∙ o.0, o.1); closed = λ _. record { month = closed_of c.in-Ok.month; settles = c.in-Ok.ensures.value; closed = c.in-Ok.ensures.closed; prints = c.in-ok-print-month.ensures }; law = statements_keep_the_law; one_line = refused_in_one_line; records = records_decide; order = days_in_any_order }
+    record { value = (c.in_ok-print_month-in-Ok.ensures ∙ o.0, o.1); closed = λ _. record { month = closed_of c.in-Ok.month; settles = c.in-Ok.ensures.value; closed = c.in-Ok.ensures.closed; prints = c.in_ok-print_month-in-Ok.ensures }; law = statements_keep_the_law; one_line = refused_in_one_line; records = records_decide; order = days_in_any_order }
 
-pub returns-in-err-extend-from-slice : goal.returns-in-err-extend-from-slice
-returns-in-err-extend-from-slice c = record {
-  value = IfOk-from_err c.from-residual-in-err-extend-from-slice.result _ c.from-residual-in-err-extend-from-slice.ensures.0;
-  closed = IfOk-from_err c.from-residual-in-err-extend-from-slice.result _ c.from-residual-in-err-extend-from-slice.ensures.0;
+pub returns-in_err-extend_from_slice-in-Err : goal.returns-in_err-extend_from_slice-in-Err
+returns-in_err-extend_from_slice-in-Err c = record {
+  value = IfOk-from_err c.from_residual-in_err-extend_from_slice-in-Err.result _ c.from_residual-in_err-extend_from_slice-in-Err.ensures.0;
+  closed = IfOk-from_err c.from_residual-in_err-extend_from_slice-in-Err.result _ c.from_residual-in_err-extend_from_slice-in-Err.ensures.0;
   law = statements_keep_the_law;
   one_line = refused_in_one_line;
   records = records_decide;
   order = days_in_any_order;
 }
 
-pub returns-in-ok-extend-from-slice : goal.returns-in-ok-extend-from-slice
-returns-in-ok-extend-from-slice c =
+pub returns-in_ok-extend_from_slice-in-Err : goal.returns-in_ok-extend_from_slice-in-Err
+returns-in_ok-extend_from_slice-in-Err c =
     let o = output_err c.args.file.now c.in-Err.fault c.in-Err.ensures.value in
     record {
-      value = (c.in-ok-extend-from-slice.ensures.items ∙ ap (λ l. l ++ c.written.result.now) c.new-bytes.ensures.items ∙ c.written.ensures ∙ c.refusal_row.ensures ∙ o.0, o.1);
+      value = (c.in_ok-extend_from_slice-in-Err.ensures.items ∙ ap (λ l. l ++ c.written.result.now) c.new-bytes.ensures.items ∙ c.written.ensures ∙ c.refusal_row.ensures ∙ o.0, o.1);
       closed = λ h. absurd (false≢true h);
       law = statements_keep_the_law;
       one_line = refused_in_one_line;

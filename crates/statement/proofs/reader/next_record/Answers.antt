@@ -11,21 +11,21 @@ returns-in-1 c =
     let four : 4 ≤ length c.args.bytes.now = omega (arith, ltb-false) in
     let e = take_rest c.args.bytes.now 4 in
     let l = ap length e ∙ length-drop 4 c.args.bytes.now in
-    let t = c.read-month.ensures.value ∙ ap month_of e in
-    record { value = grind (arith, nat_tests); within = IfOk-weaker c.read-month.result _ _ (λ x h. omega arith) c.read-month.ensures.within }
+    let t = c.read_month.ensures.value ∙ ap month_of e in
+    record { value = grind (arith, nat_tests); within = IfOk-weaker c.read_month.result _ _ (λ x h. omega arith) c.read_month.ensures.within }
 
 pub returns-in-2 : goal.returns-in-2
 returns-in-2 c =
     let four : 4 ≤ length c.args.bytes.now = omega (arith, ltb-false) in
     let e = take_rest c.args.bytes.now 4 in
     let l = ap length e ∙ length-drop 4 c.args.bytes.now in
-    let t = c.read-resource.ensures.value ∙ ap resource_of e in
-    record { value = grind (arith, nat_tests); within = IfOk-weaker c.read-resource.result _ _ (λ x h. omega arith) c.read-resource.ensures.within }
+    let t = c.read_resource.ensures.value ∙ ap resource_of e in
+    record { value = grind (arith, nat_tests); within = IfOk-weaker c.read_resource.result _ _ (λ x h. omega arith) c.read_resource.ensures.within }
 
 pub returns-in-3 : goal.returns-in-3
 returns-in-3 c =
     let four : 4 ≤ length c.args.bytes.now = omega (arith, ltb-false) in
     let e = take_rest c.args.bytes.now 4 in
     let l = ap length e ∙ length-drop 4 c.args.bytes.now in
-    let t = c.read-day.ensures.value ∙ ap day_of e in
-    record { value = grind (arith, nat_tests); within = IfOk-weaker c.read-day.result _ _ (λ x h. omega arith) c.read-day.ensures.within }
+    let t = c.read_day.ensures.value ∙ ap day_of e in
+    record { value = grind (arith, nat_tests); within = IfOk-weaker c.read_day.result _ _ (λ x h. omega arith) c.read_day.ensures.within }

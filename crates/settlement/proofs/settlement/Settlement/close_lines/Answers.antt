@@ -1,4 +1,4 @@
-use Rattle.std.proofs.Common.{◌≤◌, length, arith, rules}
+use Rattle.std.proofs.Common.{rules}
 use Rattle.fund.specs.declared.pool.Pool.TheVariants.{Generic, Flexible}
 use Rattle.settlement.proofs.Working.{charged_small}
 use Rattle.settlement.proofs.settlement.Settlement.close_lines.Goals as goal

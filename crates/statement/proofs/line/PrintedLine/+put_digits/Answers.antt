@@ -8,13 +8,13 @@ use Rattle.statement.specs.Text.{text, size}
 length_decimal_step : (n : ℕ) → 10 ≤ n → n < 2 ^ 64 → length (decimal n) ≡ length (decimal (n / 10)) + 1
 length_decimal_step n ge lt = ap length (decimal_step n ge lt) ∙ length_push _ _
 
-pub put-digits-requires : goal.put-digits-requires
-put-digits-requires t c = (omega arith, omega (arith, length_decimal_step c.args.n (omega arith) (omega arith)))
+pub put_digits-requires : goal.put_digits-requires
+put_digits-requires t c = (omega arith, omega (arith, length_decimal_step c.args.n (omega arith) (omega arith)))
 
-pub put-byte-requires : goal.put-byte-requires
-put-byte-requires t c =
+pub put_byte-requires : goal.put_byte-requires
+put_byte-requires t c =
     elim c.if-n-ge10.branch [
-      | then-n-ge10 w ↦ let e = ap size w.self-is in omega (arith, length_decimal_step c.args.n (omega arith) (omega arith), w.put-digits.ensures.size)
+      | then-n-ge10 w ↦ let e = ap size w.self-is in omega (arith, length_decimal_step c.args.n (omega arith) (omega arith), w.put_digits.ensures.size)
       | else-n-ge10 w ↦ let e = ap size w.self-is in omega (arith, decimal_nonempty c.args.n (omega arith))
     ]
 
@@ -25,10 +25,10 @@ returns t c =
           let e = ap size w.self-is in
           let d = decimal_step c.args.n (omega arith) (omega arith) in
           let a = append_assoc (text c.args.self.now) (decimal (c.args.n / 10)) ((48 + c.args.n % 10) ∷ []) in
-          record { text = cc; size = omega (arith, length_decimal_step c.args.n (omega arith) (omega arith), w.put-digits.ensures.size, c.put-byte.ensures.size) }
+          record { text = cc; size = omega (arith, length_decimal_step c.args.n (omega arith) (omega arith), w.put_digits.ensures.size, c.put_byte.ensures.size) }
       | else-n-ge10 w ↦
           let e = ap size w.self-is in
           let d = decimal_digit c.args.n (omega arith) in
           let m : c.args.n % 10 ≡ c.args.n = omega arith in
-          record { text = cc; size = omega (arith, ap length d, c.put-byte.ensures.size) }
+          record { text = cc; size = omega (arith, ap length d, c.put_byte.ensures.size) }
     ]

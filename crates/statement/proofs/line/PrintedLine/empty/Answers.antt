@@ -6,5 +6,5 @@ zeros zero k = refl
 zeros (suc n) zero = refl
 zeros (suc n) (suc k) = zeros n k
 
-pub invariant-of-result : goal.invariant-of-result
-invariant-of-result c = (search rules, (λ k h. zeros 96 k, tt))
+pub invariant_of-result : goal.invariant_of-result
+invariant_of-result c = record { within = search rules; clear = λ k h. zeros 96 k }

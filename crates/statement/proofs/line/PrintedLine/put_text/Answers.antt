@@ -1,6 +1,6 @@
-use Rattle.std.proofs.Common.{◌≡◌, [], ◌∷◌, ◌++◌, length, get_or, take, ap, ◌∙◌, arith}
+use Rattle.std.proofs.Common.{[], ◌∷◌, get_or, take, arith}
 use Rattle.std.proofs.lemmas.List.{append_assoc, take_more, take_all}
-use Rattle.statement.specs.Text.{text, size}
+use Rattle.statement.specs.Text.{text}
 use Rattle.statement.proofs.line.PrintedLine.put_text.Goals as goal
 
 pub loop-b-preserved : goal.loop-b-preserved
