@@ -1,7 +1,9 @@
 // Reads a month file from standard input, and writes its statement, or its refusal, to standard output.
-use anyhow::anyhow;
+#![tactic(auto)]
+
 use statement::job::settle_file;
 use std::io::{Read, Write};
+use std::process::ExitCode;
 
 fn run(rt: &HostRuntime) -> anyhow::Result<bool> {
     let mut file = Vec::new(rt.alloc());
@@ -11,10 +13,11 @@ fn run(rt: &HostRuntime) -> anyhow::Result<bool> {
     Ok(output.settled)
 }
 
-fn main(rt: HostRuntime) -> anyhow::Result<()> {
+// The status tells a statement from a refusal.
+fn main(rt: HostRuntime) -> anyhow::Result<ExitCode> {
     if run(&rt)? {
-        Ok(())
+        Ok(ExitCode::SUCCESS)
     } else {
-        Err(anyhow!("the month file is refused"))
+        Ok(ExitCode::FAILURE)
     }
 }

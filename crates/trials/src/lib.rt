@@ -1,3 +1,5 @@
+#![tactic(auto)]
+
 // Tests of the libraries together, through their public calls.
 #[cfg(test)]
 mod statements;

@@ -1,5 +1,7 @@
 // Runs month files through the library, and compares each output byte by byte with the one expected.
 // Standard input names the files, one to a line: NAME.month, and its output in NAME.statement.
+#![tactic(auto)]
+
 use anyhow::anyhow;
 use statement::job::settle_file;
 use std::fs;
