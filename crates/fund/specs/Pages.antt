@@ -8,7 +8,7 @@ use Rattle.fund.specs.Postings.{counted, balance, Kept}
 use Rattle.fund.specs.Journal.{Fit, Pages, PagesSound, journal_book, posting, with_posting, pages_from, pages_ruled_off, pages_of, brought, with_brought}
 use Rattle.fund.specs.declared.journal.Journal.{Journal}
 use Rattle.fund.specs.PostingsLemmas.{posted_total, kept_at, kept_in, kept_out, balance_in, balance_out, kept_forward, balance_forward, forward_short}
-use Rattle.fund.specs.PostingsLemmas.{balance_le as kept-le}
+use Rattle.fund.specs.PostingsLemmas.{balance_le as kept_le}
 use Rattle.fund.specs.declared.pool.Pool.{Pool}
 use Rattle.fund.specs.declared.pool.Pool.TheVariants.{Generic, Flexible}
 use Rattle.fund.specs.declared.pool.Standing.{Standing}
@@ -23,7 +23,7 @@ kept : {s : Pages} → PagesSound s → (q : Pool) → Kept s.postings q
 kept {s} k q = kept_at s.postings k.generic k.flexible q
 
 pub balance_le : {s : Pages} → PagesSound s → (q : Pool) → balance s.postings q ≤ limit
-balance_le {s} k q = kept-le s.postings q (kept k q)
+balance_le {s} k q = kept_le s.postings q (kept k q)
 
 holds : (s : Pages) → PagesSound s → Holds journal_book s
 holds s k = record { sized = k.sized.0; shown = balance_le k; binding = balance_le k; agrees = λ e q. refl }

@@ -1,7 +1,7 @@
 -- The laws of a month file's output.
 use Rattle.std.proofs.Common.{◌≡◌, ℕ, zero, suc, ◌+◌, ◌/◌, ◌%◌, false, eqb, ltb, List, [], ◌∷◌, ◌++◌, Ok, Err, codes, decimal, Result, refl, ap, arith}
 use Rattle.std.specs.Fmt.{digit_glyph, digits_onto, digits}
-use Rattle.std.specs.List.{AllByRecursion as All}
+use Rattle.std.specs.List.{AllByRecursion}
 use Rattle.std.proofs.ByRecursion.{All-append}
 use Rattle.std.proofs.lemmas.Bool.{cond_both, true≢false}
 use Rattle.fund.specs.declared.fault.BookFault.TheVariants.{UnfitPlaces, NoFreePlace, OverLimit, AboveBalance, NoAdvisoryMonths}
@@ -22,14 +22,14 @@ NoFeed b = b ≡ 10 → ⊥
 glyph_unbroken : (d : ℕ) → NoFeed (digit_glyph false d)
 glyph_unbroken d = cond_both (ltb d 10) (48 + d) (87 + d) NoFeed (λ _ e. omega arith) (λ _ e. omega arith)
 
-spelled_unbroken : (k n : ℕ) (acc : List ℕ) → All NoFeed acc → All NoFeed (digits_onto k 10 false n acc)
+spelled_unbroken : (k n : ℕ) (acc : List ℕ) → AllByRecursion NoFeed acc → AllByRecursion NoFeed (digits_onto k 10 false n acc)
 spelled_unbroken zero n acc h = h
 spelled_unbroken (suc k) n acc h =
-    cond_both (eqb (n / 10) 0) (digit_glyph false (n % 10) ∷ acc) (digits_onto k 10 false (n / 10) (digit_glyph false (n % 10) ∷ acc)) (All NoFeed)
+    cond_both (eqb (n / 10) 0) (digit_glyph false (n % 10) ∷ acc) (digits_onto k 10 false (n / 10) (digit_glyph false (n % 10) ∷ acc)) (AllByRecursion NoFeed)
     (λ _. (glyph_unbroken (n % 10), h))
     (λ _. spelled_unbroken k (n / 10) (digit_glyph false (n % 10) ∷ acc) (glyph_unbroken (n % 10), h))
 
-decimal_unbroken : (n : ℕ) → All NoFeed (decimal n)
+decimal_unbroken : (n : ℕ) → AllByRecursion NoFeed (decimal n)
 unfolding digits
 decimal_unbroken n = spelled_unbroken 64 n [] tt
 
@@ -54,13 +54,13 @@ letter_unbroken : (f : StatementFault) → NoFeed (label f).layer
 letter_unbroken (Reader x) e = omega arith
 letter_unbroken (Settlement x) e = settlement_letter x.fault e
 
-space : All NoFeed (codes " ")
+space : AllByRecursion NoFeed (codes " ")
 space = ((λ e. omega arith), tt)
 
-word : All NoFeed (codes "REFUSED ")
+word : AllByRecursion NoFeed (codes "REFUSED ")
 word = ((λ e. omega arith), ((λ e. omega arith), ((λ e. omega arith), ((λ e. omega arith), ((λ e. omega arith), ((λ e. omega arith), ((λ e. omega arith), ((λ e. omega arith), tt))))))))
 
-letter : (f : StatementFault) → All NoFeed ((label f).layer ∷ [])
+letter : (f : StatementFault) → AllByRecursion NoFeed ((label f).layer ∷ [])
 letter f = (letter_unbroken f, tt)
 
 refusal_line : (f : StatementFault) → OneLine (refusal_row f)

@@ -1,6 +1,6 @@
 -- What holds of the output of every month file.
 use Rattle.std.specs.Prelude.{◌≡◌, ℕ, ◌-◌, false, List, [], ◌∷◌, ◌++◌, Ok, Err, ◌≢◌}
-use Rattle.std.specs.List.{AllByRecursion as All}
+use Rattle.std.specs.List.{AllByRecursion}
 use Rattle.assessment.specs.declared.day_result.DayRow.{DayRow}
 use Rattle.fund.specs.Balances.{Balances}
 use Rattle.fund.specs.Overlay.{Overlaid}
@@ -25,7 +25,7 @@ use Rattle.statement.specs.declared.records.SubmittedDay.{SubmittedDay}
 pub record OneLine (bs : List ℕ) : Type 0 where
   pub front : List ℕ
   pub ended : bs ≡ front ++ 10 ∷ []
-  pub unbroken : All (λ b. b ≢ 10) front
+  pub unbroken : AllByRecursion (λ b. b ≢ 10) front
 
 -- A file refused prints exactly one line.
 abbrev pub RefusedInOneLine : Type 0
