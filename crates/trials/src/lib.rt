@@ -1,5 +1,5 @@
 #![tactic(auto)]
 
-// Tests of the libraries together, through their public calls.
+// The smallest month files, settled through the public call of the library.
 #[cfg(test)]
 mod statements;
