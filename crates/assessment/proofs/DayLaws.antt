@@ -1,29 +1,26 @@
 -- The laws of a day, for every pair of rules that keep what they owe.
-use Rattle.std.proofs.Common.{◌≡◌, ℕ, ◌-◌, ◌*◌, ◌<◌, ◌≤◌, min, max, Bool, true, false, cond, ⊎_elim, le-mul_of_pos_right, arith}
+use Rattle.std.proofs.Common.{◌≡◌, ℕ, ◌-◌, ◌*◌, ◌<◌, ◌≤◌, max, Bool, cond, ⊎_elim, le-mul_of_pos_right, arith}
 use Rattle.std.proofs.lemmas.Bool.{cases_lt}
+use Rattle.std.proofs.lemmas.Bool.Decides.{nat_tests}
 use Rattle.assessment.specs.Records.{bids_after}
 use Rattle.assessment.specs.Days.{Rules, DayCase, generic_net, flexible_net, generic_in, flexible_in, generic_hour, flexible_hour, generic_to, flexible_to, weight, larger_net, day_figures}
-use Rattle.assessment.specs.Totals.{totals_to}
+use Rattle.assessment.specs.Totals.{Totals, totals_to}
 use Rattle.assessment.specs.Laws.{RulesOwed, DayLaw, LittleLost}
 use Rattle.assessment.specs.declared.submission.HourBids.{HourBids}
-use Rattle.assessment.specs.declared.totals.PoolTotals.{PoolTotals}
 use Rattle.assessment.proofs.Running.{sum_mono, sum_scaled, sum_at_least}
 use Rattle.assessment.proofs.Watts.{figure_mono, figure_capped, obligations_shared, obligations_whole}
 
 -- in every hour no market gives more than is owed, and no more is owed than k kW
-record HourLaw (k : ℕ) (t : PoolTotals) : Type 0 where
+record HourLaw (k : ℕ) (t : Totals) : Type 0 where
   day_ahead_within : t.day_ahead ≤ t.owed
   real_time_within : t.real_time ≤ t.owed
   capped : t.owed ≤ k * t.hours
 
 generic_owed : (p q : Bool) (G Φ : ℕ) → cond p (cond q (G - Φ) G) 0 ≤ max G Φ * cond p 1 0
-generic_owed true true G Φ = omega arith
-generic_owed true false G Φ = omega arith
-generic_owed false q G Φ = omega arith
+generic_owed p q G Φ = grind (arith, nat_tests)
 
 flexible_owed : (p : Bool) (G Φ : ℕ) → cond p Φ 0 ≤ max G Φ * cond p 1 0
-flexible_owed true G Φ = omega arith
-flexible_owed false G Φ = omega arith
+flexible_owed p G Φ = grind (arith, nat_tests)
 
 generic_hour_law : (r : Rules) (c : DayCase) (b : HourBids) (h : ℕ) → RulesOwed r → HourLaw (larger_net c.submission) (generic_hour r c b h)
 generic_hour_law r c b h o = record {
@@ -40,7 +37,7 @@ flexible_hour_law r c b h o = record {
 }
 
 -- so over the day
-day_total_law : (k : ℕ) (hour : ℕ → PoolTotals) → ((h : ℕ) → HourLaw k (hour h)) → (n : ℕ) → HourLaw k (totals_to hour n)
+day_total_law : (k : ℕ) (hour : ℕ → Totals) → ((h : ℕ) → HourLaw k (hour h)) → (n : ℕ) → HourLaw k (totals_to hour n)
 day_total_law k hour law n = record {
   day_ahead_within = sum_mono _ _ (λ h. (law h).day_ahead_within) n;
   real_time_within = sum_mono _ _ (λ h. (law h).real_time_within) n;
@@ -55,13 +52,10 @@ flexible_law r c o = day_total_law (larger_net c.submission) _ (λ h. flexible_h
 
 -- what is owed at least, in an hour and over the day
 generic_least : (p q : Bool) (G Φ : ℕ) → (G - Φ) * cond p 1 0 ≤ cond p (cond q (G - Φ) G) 0
-generic_least true true G Φ = omega arith
-generic_least true false G Φ = omega arith
-generic_least false q G Φ = omega arith
+generic_least p q G Φ = grind (arith, nat_tests)
 
 flexible_least : (p : Bool) (Φ : ℕ) → Φ * cond p 1 0 ≤ cond p Φ 0
-flexible_least true Φ = omega arith
-flexible_least false Φ = omega arith
+flexible_least p Φ = grind (arith, nat_tests)
 
 -- with both pools assessed, nothing is owed only where nothing is shown
 none_shown : (r : Rules) (c : DayCase) → 0 < (generic_to r c 24).hours → 0 < (flexible_to r c 24).hours → weight (generic_to r c 24) (flexible_to r c 24) ≡ 0 → larger_net c.submission ≡ 0
@@ -76,9 +70,6 @@ none_shown r c p q w =
     let shown : flexible_net c ≤ flexible_net c * f.hours = le-mul_of_pos_right (flexible_net c) q in
     omega (arith, G, Φ)
 
-smaller_within : (a b o : ℕ) → a ≤ o → min a b ≤ o
-smaller_within a b o h = omega arith
-
 pub day_law : (r : Rules) (c : DayCase) → RulesOwed r → DayLaw r c
 unfolding day_figures
 day_law r c o =
@@ -88,8 +79,8 @@ day_law r c o =
     let lg = generic_law r c o in
     let lf = flexible_law r c o in
     record {
-      generic_within = smaller_within _ _ _ (figure_mono _ _ g f m lg.day_ahead_within);
-      flexible_within = smaller_within _ _ _ (figure_mono _ _ f g m lf.day_ahead_within);
+      generic_within = omega (arith, figure_mono _ _ g f m lg.day_ahead_within);
+      flexible_within = omega (arith, figure_mono _ _ f g m lf.day_ahead_within);
       generic_capped = figure_capped m g f m lg.capped (omega arith);
       flexible_capped = figure_capped m f g m lf.capped (omega arith);
       shared = λ both. obligations_shared g f m both.0 both.1;

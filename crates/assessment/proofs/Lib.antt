@@ -1,3 +1,4 @@
+pub mod Arrays
 pub mod Running
 pub mod Dates
 pub mod Hourly

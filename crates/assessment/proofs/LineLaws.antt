@@ -1,6 +1,5 @@
 -- The laws of a resource's two lines.
-use Rattle.std.proofs.Common.{◌≡◌, ℕ, zero, suc, ◌+◌, ◌-◌, ◌*◌, ◌/◌, ◌<◌, ◌≤◌, List, length, get_or, take, refl, subst, div-le_self, add-one, arith, take_all}
-use native.Mathlib.Nat.{div-div-eq-div-mul}
+use Rattle.std.proofs.Common.{◌≡◌, ℕ, zero, suc, ◌+◌, ◌-◌, ◌*◌, ◌/◌, ◌<◌, ◌≤◌, List, length, get_or, take, refl, subst, add-one, arith, take_all, None}
 use Rattle.std.proofs.lemmas.List.Sums.{sum_by_more}
 use Rattle.std.proofs.lemmas.Bool.Decides.{nat_tests}
 use Rattle.assessment.specs.Calendar.{days_in, days_of}
@@ -10,9 +9,7 @@ use Rattle.assessment.specs.Laws.{LineLaw, LinesLaw}
 use Rattle.assessment.specs.Lines.{figures_in, PoolWithin, RowsWithin, obligation_sum, availability_sum, has_hours, assessed_days, state_of, quantity_in, line_of, pool_line, lines_of}
 use Rattle.assessment.specs.declared.trade_month.TradeMonth.{TradeMonth}
 use Rattle.assessment.specs.declared.day_result.PoolFigures.{PoolFigures}
-use Rattle.assessment.specs.declared.day_result.DayFigures.{DayFigures}
-use Rattle.assessment.specs.declared.day_result.DayRow.{DayRow}
-use Rattle.assessment.specs.declared.day_result.DayRow.TheVariants as row
+use Rattle.assessment.specs.Figures.{DayFigures, DayRow}
 use Rattle.assessment.specs.declared.line.LineState.{LineState}
 use Rattle.assessment.specs.declared.line.LineState.TheVariants.{Empty, Charged, Neutral, Paid}
 use Rattle.assessment.proofs.Running.{count_le}
@@ -21,7 +18,7 @@ use Rattle.assessment.proofs.Monthly.{Summed, summed_none, summed_more}
 
 -- an average over some days is at most a thousandth of the sum
 average_small : (x n : ℕ) → x / (1000 * n) ≤ x / 1000
-average_small x n = rw (← div-div-eq-div-mul x 1000 n) (div-le_self (x / 1000) n)
+average_small x n = grind arith
 
 quantity_small : (s : LineState) (o a n : ℕ) → a ≤ o → o ≤ 62000000000 → quantity_in s o a n ≤ 58590000000
 quantity_small Empty o a n h k = omega arith
@@ -45,13 +42,13 @@ days_few y m = grind (arith, nat_tests)
 
 -- one pool's figures of every row within their limits
 abbrev PoolsWithin : (DayFigures → PoolFigures) → List DayRow → Type 0
-PoolsWithin pool rows = (k : ℕ) → k < 31 → PoolWithin (pool (figures_in (get_or rows k row.Empty)))
+PoolsWithin pool rows = (k : ℕ) → k < 31 → PoolWithin (pool (figures_in (get_or rows k None)))
 
 summed_to : (pool : DayFigures → PoolFigures) (rows : List DayRow) → length rows ≡ 31 → PoolsWithin pool rows → (i : ℕ) → i ≤ 31 → Summed pool rows i (obligation_sum pool (take i rows)) (availability_sum pool (take i rows))
 summed_to pool rows len w zero h = summed_none pool rows
 summed_to pool rows len w (suc i) h =
     let lt : i < length rows = omega arith in
-    let more = summed_more pool rows i row.Empty _ _ (obligation_sum pool (take (i + 1) rows)) (availability_sum pool (take (i + 1) rows)) (pool (figures_in (get_or rows i row.Empty))) (summed_to pool rows len w i (omega arith)) lt refl (w i (omega arith)) (sum_by_more (λ r. (pool (figures_in r)).obligation) rows i row.Empty lt, sum_by_more (λ r. (pool (figures_in r)).availability) rows i row.Empty lt) in
+    let more = summed_more pool rows i None _ _ (obligation_sum pool (take (i + 1) rows)) (availability_sum pool (take (i + 1) rows)) (pool (figures_in (get_or rows i None))) (summed_to pool rows len w i (omega arith)) lt refl (w i (omega arith)) (sum_by_more (λ r. (pool (figures_in r)).obligation) rows i None lt) (sum_by_more (λ r. (pool (figures_in r)).availability) rows i None lt) in
     subst (λ j. Summed pool rows j (obligation_sum pool (take j rows)) (availability_sum pool (take j rows))) (add-one i) more
 
 pool_law : (pool : DayFigures → PoolFigures) (r : Rule) (m : TradeMonth) (category : ℕ) (rows : List DayRow) → length rows ≡ 31 → PoolsWithin pool rows → LineLaw (pool_line pool r m category rows)

@@ -3,8 +3,7 @@ use Rattle.std.proofs.Common.{◌≡◌, ℕ, ◌+◌, ◌*◌, ◌<◌, ◌≤�
 use Rattle.std.proofs.lemmas.List.Sums.{sum_by_more}
 use Rattle.assessment.specs.Lines.{figures_in, PoolWithin, RowWithin, obligation_sum, availability_sum, line_of}
 use Rattle.assessment.specs.declared.day_result.PoolFigures.{PoolFigures}
-use Rattle.assessment.specs.declared.day_result.DayFigures.{DayFigures}
-use Rattle.assessment.specs.declared.day_result.DayRow.{DayRow}
+use Rattle.assessment.specs.Figures.{DayFigures, DayRow}
 use Rattle.assessment.specs.declared.line.Line.{Line}
 
 -- one pool's sums over the first i rows
@@ -17,8 +16,8 @@ pub record Summed (pool : DayFigures → PoolFigures) (rows : List DayRow) (i o 
 pub summed_none : (pool : DayFigures → PoolFigures) (rows : List DayRow) → Summed pool rows 0 0 0
 summed_none pool rows = record { obligation_is = refl; availability_is = refl; capped = omega arith; within = omega arith }
 
-pub summed_more : (pool : DayFigures → PoolFigures) (rows : List DayRow) (i : ℕ) (d : DayRow) (o a o' a' : ℕ) (day : PoolFigures) → Summed pool rows i o a → i < length rows → day ≡ pool (figures_in (get_or rows i d)) → PoolWithin day → (o' ≡ o + day.obligation) × (a' ≡ a + day.availability) → Summed pool rows (i + 1) o' a'
-summed_more pool rows i d o a o' a' day s lt is w sums = record {
+pub summed_more : (pool : DayFigures → PoolFigures) (rows : List DayRow) (i : ℕ) (d : DayRow) (o a o' a' : ℕ) (day : PoolFigures) → Summed pool rows i o a → i < length rows → day ≡ pool (figures_in (get_or rows i d)) → PoolWithin day → o' ≡ o + day.obligation → a' ≡ a + day.availability → Summed pool rows (i + 1) o' a'
+summed_more pool rows i d o a o' a' day s lt is w owed given = record {
   obligation_is = omega (arith, sum_by_more (λ r. (pool (figures_in r)).obligation) rows i d lt, ap (λ (p : PoolFigures). p.obligation) is);
   availability_is = omega (arith, sum_by_more (λ r. (pool (figures_in r)).availability) rows i d lt, ap (λ (p : PoolFigures). p.availability) is);
   capped = omega arith;

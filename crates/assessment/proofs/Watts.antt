@@ -1,55 +1,33 @@
 -- A day's watts grow with the amount, and never pass the larger net showing.
-use Rattle.std.proofs.Common.{◌≡◌, ℕ, zero, suc, ◌+◌, ◌*◌, ◌/◌, ◌<◌, ◌≤◌, Bool, true, false, cond, eqb, ap, ◌∙◌, ⊎_elim, mul_assoc, mul_comm, add-mul, add_comm, lt_of_mul-lt-mul_right, div-mul-le_self, le_of_mul-le-mul_right, arith}
-use native.Mathlib.Nat.{div-le_of_le-mul, div-zero, lt-div-mul-add}
+use Rattle.std.proofs.Common.{◌≡◌, ℕ, ◌+◌, ◌*◌, ◌/◌, ◌<◌, ◌≤◌, ap, ◌∙◌, ⊎_elim, mul_comm, add-mul, add_comm, lt_of_mul-lt-mul_right, div-mul-le_self, le_of_mul-le-mul_right, arith}
+use native.Mathlib.Nat.{div-le_of_le-mul, lt-div-mul-add}
 use Rattle.std.proofs.lemmas.Bool.{cases_lt}
 use Rattle.std.proofs.lemmas.Bool.Decides.{nat_tests}
-use Rattle.std.proofs.lemmas.Nat.{mul-le, le-div, div-add-mod'}
+use Rattle.std.proofs.lemmas.Nat.{mul-le}
 use Rattle.assessment.specs.Days.{figure, weight}
-use Rattle.assessment.specs.Totals.{Sound}
-use Rattle.assessment.specs.declared.totals.PoolTotals.{PoolTotals}
+use Rattle.assessment.specs.Totals.{Totals}
 
 pub div_mono : (x y k : ℕ) → x ≤ y → x / k ≤ y / k
-div_mono x y zero h = omega (arith, div-zero x)
-div_mono x y (suc k) h = le-div (x / suc k) y (suc k) (omega arith) (omega (arith, div-add-mod' x (suc k)))
+div_mono x y k h = grind arith
 
-cond_mono : (b : Bool) (x y x' y' : ℕ) → x ≤ x' → y ≤ y' → cond b x y ≤ cond b x' y'
-cond_mono true x y x' y' p q = p
-cond_mono false x y x' y' p q = q
-
-cond_capped : (b : Bool) (x y m : ℕ) → x ≤ m → y ≤ m → cond b x y ≤ m
-cond_capped true x y m p q = p
-cond_capped false x y m p q = q
-
-guard_mono : (b : Bool) (y y' : ℕ) → y ≤ y' → cond b 0 y ≤ cond b 0 y'
-guard_mono b y y' h = cond_mono b 0 y 0 y' (omega arith) h
-
-guard_capped : (b : Bool) (y m : ℕ) → y ≤ m → cond b 0 y ≤ m
-guard_capped b y m h = cond_capped b 0 y m (omega arith) h
-
-scaled : (x y f m : ℕ) → x ≤ y → 1000 * x * f * m ≤ 1000 * y * f * m
-scaled x y f m h = mul-le (1000 * x * f) m (1000 * y * f) m (mul-le (1000 * x) f (1000 * y) f (omega arith) (omega arith)) (omega arith)
-
-pub figure_mono : (x y : ℕ) (own other : PoolTotals) (m : ℕ) → x ≤ y → figure x own other m ≤ figure y own other m
+pub figure_mono : (x y : ℕ) (own other : Totals) (m : ℕ) → x ≤ y → figure x own other m ≤ figure y own other m
 figure_mono x y own other m h =
-    guard_mono (eqb own.hours 0) _ _
-    (cond_mono (eqb other.hours 0) _ _ _ _ (div_mono (1000 * x) (1000 * y) own.hours (omega arith))
-    (guard_mono (eqb (weight own other) 0) _ _ (div_mono _ _ (weight own other) (scaled x y other.hours m h))))
+    grind (arith, nat_tests, div_mono (1000 * x) (1000 * y) own.hours (omega arith), div_mono (1000 * x * other.hours * m) (1000 * y * other.hours * m) (weight own other) (grind arith))
 
 weighed : (S f m : ℕ) → 1000 * S * f * m ≡ S * f * (1000 * m)
-weighed S f m = rw (mul_assoc 1000 S f) (omega arith)
+weighed S f m = grind arith
 
 -- what is owed to k kW in each hour comes to 1000 k watts
-pub figure_capped : (k : ℕ) (own other : PoolTotals) (m : ℕ) → own.owed ≤ k * own.hours → m ≤ k → figure own.owed own other m ≤ 1000 * k
+pub figure_capped : (k : ℕ) (own other : Totals) (m : ℕ) → own.owed ≤ k * own.hours → m ≤ k → figure own.owed own other m ≤ 1000 * k
 figure_capped k own other m owed h =
-    guard_capped (eqb own.hours 0) _ _
-    (cond_capped (eqb other.hours 0) _ _ _ (div-le_of_le-mul own.hours {m = 1000 * own.owed} {n = 1000 * k} (omega (arith, mul_comm k own.hours)))
-    (guard_capped (eqb (weight own other) 0) _ _
-    (div-le_of_le-mul (weight own other) (rw (weighed own.owed other.hours m) (mul-le (own.owed * other.hours) (1000 * m) (weight own other) (1000 * k) (omega arith) (omega arith))))))
+    let alone = div-le_of_le-mul own.hours {m = 1000 * own.owed} {n = 1000 * k} (omega (arith, mul_comm k own.hours)) in
+    let shared = div-le_of_le-mul (weight own other) {m = 1000 * own.owed * other.hours * m} {n = 1000 * k} (rw (weighed own.owed other.hours m) (mul-le (own.owed * other.hours) (1000 * m) (weight own other) (1000 * k) (omega arith) (omega arith))) in
+    grind (arith, nat_tests, alone, shared)
 
-pub watts_within : (w x : ℕ) (own other : PoolTotals) (m : ℕ) → Sound 24 own → x ≤ own.owed → m ≤ 2000000 → w ≡ figure x own other m → (w ≤ figure own.owed own other m) × (w ≤ 2000000000)
+pub watts_within : (w x : ℕ) (own other : Totals) (m : ℕ) → own.owed ≤ 2000000 * own.hours → x ≤ own.owed → m ≤ 2000000 → w ≡ figure x own other m → (w ≤ figure own.owed own other m) × (w ≤ 2000000000)
 watts_within w x own other m s h k is =
     let grows = figure_mono x own.owed own other m h in
-    let cap : figure own.owed own other m ≤ 2000000000 = figure_capped 2000000 own other m s.capped k in
+    let cap : figure own.owed own other m ≤ 2000000000 = figure_capped 2000000 own other m s k in
     (omega arith, omega arith)
 
 -- two parts of a whole, each rounded down
@@ -61,19 +39,19 @@ parts a b D m pos e =
     (le_of_mul-le-mul_right low pos, lt_of_mul-lt-mul_right D high)
 
 -- both pools assessed, and something owed
-divided : (x m : ℕ) (own other : PoolTotals) → 0 < own.hours → 0 < other.hours → 0 < weight own other → figure x own other m ≡ 1000 * x * other.hours * m / weight own other
+divided : (x m : ℕ) (own other : Totals) → 0 < own.hours → 0 < other.hours → 0 < weight own other → figure x own other m ≡ 1000 * x * other.hours * m / weight own other
 divided x m own other p q w = grind (arith, nat_tests)
 
-swapped : (own other : PoolTotals) → weight other own ≡ weight own other
+swapped : (own other : Totals) → weight other own ≡ weight own other
 swapped own other = add_comm (other.owed * own.hours) (own.owed * other.hours)
 
 -- the two obligations of a day on which something is owed
-abbrev Shared : PoolTotals → PoolTotals → ℕ → Type 0
+abbrev Shared : Totals → Totals → ℕ → Type 0
 Shared own other m =
     (figure own.owed own other m + figure other.owed other own m ≤ 1000 * m) ×
     (1000 * m < figure own.owed own other m + figure other.owed other own m + 2)
 
-pub obligations_whole : (own other : PoolTotals) (m : ℕ) → 0 < own.hours → 0 < other.hours → 0 < weight own other → Shared own other m
+pub obligations_whole : (own other : Totals) (m : ℕ) → 0 < own.hours → 0 < other.hours → 0 < weight own other → Shared own other m
 obligations_whole own other m p q w =
     let back : 0 < weight other own = omega arith in
     let all : 1000 * own.owed * other.hours * m + 1000 * other.owed * own.hours * m ≡ 1000 * m * weight own other =
@@ -83,11 +61,11 @@ obligations_whole own other m p q w =
     divided other.owed m other own q p back ∙ ap (λ d. 1000 * other.owed * own.hours * m / d) (swapped own other) in
     rw (divided own.owed m own other p q w, second) two
 
-nothing : (x m : ℕ) (own other : PoolTotals) → 0 < own.hours → 0 < other.hours → weight own other ≡ 0 → figure x own other m ≡ 0
+nothing : (x m : ℕ) (own other : Totals) → 0 < own.hours → 0 < other.hours → weight own other ≡ 0 → figure x own other m ≡ 0
 nothing x m own other p q w = grind (arith, nat_tests)
 
 -- both pools assessed: together at most the larger net showing
-pub obligations_shared : (own other : PoolTotals) (m : ℕ) → 0 < own.hours → 0 < other.hours → figure own.owed own other m + figure other.owed other own m ≤ 1000 * m
+pub obligations_shared : (own other : Totals) (m : ℕ) → 0 < own.hours → 0 < other.hours → figure own.owed own other m + figure other.owed other own m ≤ 1000 * m
 obligations_shared own other m p q =
     ⊎_elim
     (λ w. (obligations_whole own other m p q w).0)

@@ -2,7 +2,7 @@
 use Rattle.std.specs.Prelude.{ℕ, ◌+◌, ◌-◌, ◌*◌, ◌/◌, min, max, Bool, cond, ◌==◌}
 use Rattle.assessment.specs.Rules.{Rule}
 use Rattle.assessment.specs.Records.{bids_after}
-use Rattle.assessment.specs.Totals.{totals_to}
+use Rattle.assessment.specs.Totals.{Totals, totals_to}
 use Rattle.assessment.specs.declared.trade_month.TradeMonth.{TradeMonth}
 use Rattle.assessment.specs.declared.submission.Bid.{Bid}
 use Rattle.assessment.specs.declared.submission.HourBids.{HourBids}
@@ -10,9 +10,8 @@ use Rattle.assessment.specs.declared.submission.Showing.{Showing}
 use Rattle.assessment.specs.declared.submission.DaySubmission.{DaySubmission}
 use Rattle.assessment.specs.declared.settings.TradeDay.{TradeDay}
 use Rattle.assessment.specs.declared.day_record.DayRecord.{DayRecord}
-use Rattle.assessment.specs.declared.totals.PoolTotals.{PoolTotals}
 use Rattle.assessment.specs.declared.day_result.PoolFigures.{PoolFigures}
-use Rattle.assessment.specs.declared.day_result.DayFigures.{DayFigures}
+use Rattle.assessment.specs.Figures.{DayFigures}
 
 -- the rules of the two pools
 pub record Rules : Type 0 where
@@ -81,7 +80,7 @@ abbrev pub in_all : ℕ × ℕ → ℕ
 in_all taken = taken.0 + taken.1
 
 -- an hour of the flexible pool at these bids: assessed or not, what is owed, and what each market gives
-abbrev pub flexible_hour : Rules → DayCase → HourBids → ℕ → PoolTotals
+abbrev pub flexible_hour : Rules → DayCase → HourBids → ℕ → Totals
 flexible_hour r c b h = record {
   hours = cond (flexible_in r c h) 1 0;
   owed = flexible_due r c h;
@@ -90,7 +89,7 @@ flexible_hour r c b h = record {
 }
 
 -- the same hour of the generic pool
-abbrev pub generic_hour : Rules → DayCase → HourBids → ℕ → PoolTotals
+abbrev pub generic_hour : Rules → DayCase → HourBids → ℕ → Totals
 generic_hour r c b h = record {
   hours = cond (generic_in r c h) 1 0;
   owed = generic_due r c h;
@@ -99,27 +98,27 @@ generic_hour r c b h = record {
 }
 
 -- the flexible pool over the first n hours, at the bids submitted
-abbrev pub flexible_to : Rules → DayCase → ℕ → PoolTotals
+abbrev pub flexible_to : Rules → DayCase → ℕ → Totals
 flexible_to r c n = totals_to (λ h. flexible_hour r c (bids_after c.submission (h - 1)) h) n
 
 -- the generic pool, likewise
-abbrev pub generic_to : Rules → DayCase → ℕ → PoolTotals
+abbrev pub generic_to : Rules → DayCase → ℕ → Totals
 generic_to r c n = totals_to (λ h. generic_hour r c (bids_after c.submission (h - 1)) h) n
 
 -- D: the two sums, each weighed by the other pool's hours
-abbrev pub weight : PoolTotals → PoolTotals → ℕ
+abbrev pub weight : Totals → Totals → ℕ
 weight own other = own.owed * other.hours + other.owed * own.hours
 
 -- An amount of kWh as the day's watts. An unassessed pool has none. A pool assessed alone has the mean over
 -- its hours. Of two pools each has its part of the larger net showing, M.
-abbrev pub figure : ℕ → PoolTotals → PoolTotals → ℕ → ℕ
+abbrev pub figure : ℕ → Totals → Totals → ℕ → ℕ
 figure amount own other largest =
     cond (own.hours == 0) 0
     (cond (other.hours == 0) (1000 * amount / own.hours)
     (cond (weight own other == 0) 0 (1000 * amount * other.hours * largest / weight own other)))
 
 -- the smaller market counts, over the day and pool by pool
-abbrev pub pool_figures : PoolTotals → PoolTotals → ℕ → PoolFigures
+abbrev pub pool_figures : Totals → Totals → ℕ → PoolFigures
 pool_figures own other largest = record {
   obligation = figure own.owed own other largest;
   availability = min (figure own.day_ahead own other largest) (figure own.real_time own other largest);

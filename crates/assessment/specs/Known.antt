@@ -6,7 +6,7 @@ use Rattle.assessment.specs.Days.{both, day_figures}
 use Rattle.assessment.specs.Lines.{line_of, letter}
 use Rattle.assessment.specs.declared.trade_month.TradeMonth.{TradeMonth}
 use Rattle.assessment.specs.declared.submission.DaySubmission.{DaySubmission}
-use Rattle.assessment.specs.declared.day_result.DayFigures.{DayFigures}
+use Rattle.assessment.specs.Figures.{DayFigures}
 use Rattle.assessment.specs.declared.line.LineState.TheVariants.{Charged, Neutral, Paid}
 
 -- June 2018 without marks; the windows are hours 1 to 5, 3 to 7 and 16 to 20

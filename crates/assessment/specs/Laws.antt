@@ -2,7 +2,7 @@
 use Rattle.std.specs.Prelude.{◌≡◌, ◌+◌, ◌*◌, ◌/◌, ◌<◌, ◌≤◌}
 use Rattle.assessment.specs.Rules.{Owed}
 use Rattle.assessment.specs.declared.line.Line.{Line}
-use Rattle.assessment.specs.declared.line.MonthLines.{MonthLines}
+use Rattle.assessment.specs.Figures.{MonthLines}
 use Rattle.assessment.specs.declared.line.LineState.TheVariants.{Charged, Paid}
 use Rattle.assessment.specs.Days.{Rules, DayCase, generic_to, flexible_to, weight, larger_net, day_figures}
 

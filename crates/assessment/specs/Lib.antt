@@ -3,7 +3,9 @@ pub mod Calendar
 pub mod Rules
 pub mod Records
 pub mod Totals
+pub mod Figures
 pub mod Days
+pub mod Pairs
 pub mod Lines
 pub mod Laws
 pub mod Known

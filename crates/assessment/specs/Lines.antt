@@ -1,18 +1,15 @@
 -- A resource's month: the sums of its day rows, and the state and quantity of its two lines.
-use Rattle.std.specs.Prelude.{◌≡◌, ℕ, ◌-◌, ◌*◌, ◌/◌, ◌<◌, ◌≤◌, Bool, cond, ◌||◌, List, length, sum_by, ◌==◌, nat_lt, slice_index_or}
+use Rattle.std.specs.Prelude.{◌≡◌, ℕ, ◌-◌, ◌*◌, ◌/◌, ◌<◌, ◌≤◌, Bool, cond, ◌||◌, List, length, sum_by, ◌==◌, nat_lt, slice_index_or, None, Some}
 use Rattle.assessment.specs.Sums.{count_to}
 use Rattle.assessment.specs.Calendar.{days_of}
 use Rattle.assessment.specs.Rules.{Rule}
 use Rattle.assessment.specs.Days.{Rules}
 use Rattle.assessment.specs.declared.trade_month.TradeMonth.{TradeMonth}
 use Rattle.assessment.specs.declared.day_result.PoolFigures.{PoolFigures}
-use Rattle.assessment.specs.declared.day_result.DayFigures.{DayFigures}
-use Rattle.assessment.specs.declared.day_result.DayRow.{DayRow}
-use Rattle.assessment.specs.declared.day_result.DayRow.TheVariants as row
+use Rattle.assessment.specs.Figures.{DayFigures, DayRow, MonthLines}
 use Rattle.assessment.specs.declared.line.LineState.{LineState}
 use Rattle.assessment.specs.declared.line.LineState.TheVariants.{Empty, Charged, Neutral, Paid}
 use Rattle.assessment.specs.declared.line.Line.{Line}
-use Rattle.assessment.specs.declared.line.MonthLines.{MonthLines}
 
 -- nothing owed and nothing given
 abbrev pub no_figures : DayFigures
@@ -23,8 +20,8 @@ no_figures = record {
 
 -- an empty place counts nothing
 abbrev pub figures_in : DayRow → DayFigures
-figures_in row.Empty = no_figures
-figures_in (row.Recorded f) = f
+figures_in None = no_figures
+figures_in (Some f) = f
 
 -- the limits of a day result: availability at most obligation, obligation at most 2,000,000,000 W
 abbrev pub PoolWithin : PoolFigures → Type 0
@@ -36,7 +33,7 @@ RowWithin r = PoolWithin (figures_in r).generic × PoolWithin (figures_in r).fle
 
 -- a resource has 31 day places, each within its limits
 abbrev pub RowsWithin : List DayRow → Type 0
-RowsWithin rows = (length rows ≡ 31) × ((k : ℕ) → k < 31 → RowWithin (slice_index_or rows k row.Empty))
+RowsWithin rows = (length rows ≡ 31) × ((k : ℕ) → k < 31 → RowWithin (slice_index_or rows k None))
 
 -- O: the obligation of a pool, which `pool` picks, summed over the rows
 abbrev pub obligation_sum : (DayFigures → PoolFigures) → List DayRow → ℕ

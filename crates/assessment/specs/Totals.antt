@@ -1,10 +1,21 @@
 -- What a pool comes to over the hours of a day: assessed hours, and sums of kW over them.
-use Rattle.std.specs.Prelude.{ℕ, ◌+◌, ◌*◌, ◌≤◌}
+use Rattle.std.specs.Prelude.{ℕ, ◌+◌}
 use Rattle.assessment.specs.Sums.{sum_to}
 use Rattle.assessment.specs.declared.totals.PoolTotals.{PoolTotals}
 
+-- the assessed hours, the kWh owed in them, and the kWh that each market gave
+pub record Totals : Type 0 where
+  pub hours : ℕ
+  pub owed : ℕ
+  pub day_ahead : ℕ
+  pub real_time : ℕ
+
+-- the same from the code, whose totals keep their limits beside them
+abbrev pub totals_of : PoolTotals → Totals
+totals_of t = record { hours = t.hours; owed = t.owed; day_ahead = t.day_ahead; real_time = t.real_time }
+
 -- for inner contracts: two totals added, field by field
-abbrev pub totals_add : PoolTotals → PoolTotals → PoolTotals
+abbrev pub totals_add : Totals → Totals → Totals
 totals_add a b = record {
   hours = a.hours + b.hours;
   owed = a.owed + b.owed;
@@ -13,17 +24,10 @@ totals_add a b = record {
 }
 
 -- field by field, the sum over hour endings 1 to n
-abbrev pub totals_to : (ℕ → PoolTotals) → ℕ → PoolTotals
+abbrev pub totals_to : (ℕ → Totals) → ℕ → Totals
 totals_to hour n = record {
   hours = sum_to (λ h. (hour h).hours) n;
   owed = sum_to (λ h. (hour h).owed) n;
   day_ahead = sum_to (λ h. (hour h).day_ahead) n;
   real_time = sum_to (λ h. (hour h).real_time) n;
 }
-
--- for inner contracts: over n hours no more than n are assessed and 2,000,000 kW owed in each, and no market gives more than is owed
-pub record Sound (n : ℕ) (t : PoolTotals) : Type 0 where
-  pub few : t.hours ≤ n
-  pub capped : t.owed ≤ 2000000 * t.hours
-  pub day_ahead_within : t.day_ahead ≤ t.owed
-  pub real_time_within : t.real_time ≤ t.owed

@@ -14,7 +14,8 @@ fn is_leap(year: u32) -> bool
 
 fn days_in_month(year: u32, month: u32) -> u32
     ensures is { result ≡ days_in year month }
-    ensures few { (28 ≤ result) × (result ≤ 31) }
+    ensures some { 28 ≤ result }
+    ensures few { result ≤ 31 }
 {
     match month {
         4 | 6 | 9 | 11 => 30,
@@ -23,37 +24,42 @@ fn days_in_month(year: u32, month: u32) -> u32
     }
 }
 
-fn days_of_first_months(year: u32, months: u32) -> u32
-    requires { months ≤ 12 }
-    ensures is { result ≡ sum_to (days_in year) months }
-    ensures few { result ≤ 31 * months }
+// How many days of the year come before the month.
+fn days_before_month(year: u32, month: u32) -> u32
+    requires from { 1 ≤ month }
+    requires to { month ≤ 12 }
+    ensures is { result ≡ sum_to (days_in year) (month - 1) }
+    ensures few { result ≤ 31 * month }
 {
     let mut days = 0;
-    for done in 0..months {
-        days += days_in_month(year, done + 1);
+    for earlier in 1..month {
+        days += days_in_month(year, earlier);
     }
     days
 }
 
 fn first_weekday(year: u32, month: u32) -> u32
-    requires { ((1 ≤ year) × (year ≤ 2099)) × ((1 ≤ month) × (month ≤ 12)) }
+    requires from_year { 1 ≤ year }
+    requires to_year { year ≤ 2099 }
+    requires from_month { 1 ≤ month }
+    requires to_month { month ≤ 12 }
     ensures { result ≡ weekday year month 1 }
 {
     let past = year - 1;
     let before = 365 * past + past / 4 + past / 400 - past / 100;
-    (before + days_of_first_months(year, month - 1) + 1) % 7
+    (before + days_before_month(year, month) + 1) % 7
 }
 
 fn date_within(month: &TradeMonth) -> bool
     ensures { MatchBool result (DateWithin month.now) (DateWithin month.now → ⊥) }
 {
-    2018 <= month.year && month.year <= 2099 && 1 <= month.month && month.month <= 12
+    (2018..=2099).contains(&month.year) && (1..=12).contains(&month.month)
 }
 
 fn start_within(start: u32) -> bool
     ensures { MatchBool result (StartWithin start) (StartWithin start → ⊥) }
 {
-    1 <= start && start <= 20
+    (1..=20).contains(&start)
 }
 
 fn windows_within(month: &TradeMonth) -> bool
@@ -88,7 +94,7 @@ impl MonthSettings {
     pub fn day(&self, day: u32) -> Option<TradeDay>
         ensures { MatchOption result ((1 ≤ day) × (day ≤ days_of self.now.month) → ⊥) (λ d. (d.day ≡ day) × (d.settings ≡ self.now)) }
     {
-        if day < 1 || day > self.days {
+        if !(1..=self.days).contains(&day) {
             return None;
         }
         Some(trade_day(self, day))
@@ -100,10 +106,9 @@ impl MonthSettings {
         ensures few { result ≤ 31 }
     {
         let mut count = 0;
-        for done in 0..self.days {
-            match trade_day(self, done + 1).kind {
-                DayKind::WorkDay => count += 1,
-                DayKind::OffDay => {}
+        for day in 1..=self.days {
+            if trade_day(self, day).kind == DayKind::WorkDay {
+                count += 1;
             }
         }
         count
@@ -112,12 +117,14 @@ impl MonthSettings {
 
 // A day of the month, with its kind.
 pub(crate) fn trade_day(settings: &MonthSettings, day: u32) -> TradeDay
-    requires { (1 ≤ day) × (day ≤ settings.now.days) }
-    ensures { (result.day ≡ day) × (result.settings ≡ settings.now) }
+    requires from { 1 ≤ day }
+    requires to { day ≤ settings.now.days }
+    ensures day { result.day ≡ day }
+    ensures settings { result.settings ≡ settings.now }
 {
     let weekday = (settings.first_weekday + day - 1) % 7;
     let marked = (settings.month.holidays >> (day - 1)) % 2 == 1;
-    let kind = if 1 <= weekday && weekday <= 5 && !marked {
+    let kind = if (1..=5).contains(&weekday) && !marked {
         DayKind::WorkDay
     } else {
         DayKind::OffDay

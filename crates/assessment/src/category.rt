@@ -1,21 +1,26 @@
 // A resource's category of flexible capacity, within its limits.
-ghost use Rattle.std.specs.Prelude.{◌≡◌, ◌<◌, ◌≤◌, MatchOption};
+ghost use Rattle.std.specs.Prelude.{◌≡◌, ◌<◌, ◌≤◌, MatchResult};
 
 // 0: no flexible capacity; 1: base; 2: peak; 3: super-peak.
-#[derive(Clone, Copy)]
+#[derive(Clone, Copy, PartialEq, Eq, Debug)]
 pub struct Category {
     pub number: u32,
     ghost within: { number ≤ 3 },
 }
 
-impl Category {
-    // The category of this number; None above 3.
-    pub fn new(number: u32) -> Option<Category>
-        ensures { MatchOption result (3 < number) (λ c. c.number ≡ number) }
-    {
+// A number above 3, which is no category.
+#[derive(Clone, Copy, PartialEq, Eq, Debug)]
+pub struct UnknownCategory(pub u32);
+
+impl TryFrom<u32> for Category {
+    type Error = UnknownCategory;
+
+    ghost try_from_gives = { λ number r. MatchResult r (λ c. c.number ≡ number) (λ e. (e.0 ≡ number) × (3 < number)) };
+
+    fn try_from(number: u32) -> Result<Category, UnknownCategory> {
         if number > 3 {
-            return None;
+            return Err(UnknownCategory(number));
         }
-        Some(Category { number })
+        Ok(Category { number })
     }
 }

@@ -20,12 +20,7 @@ fn hour_within(bids: &HourBids) -> bool
 fn bids_within(submission: &DaySubmission) -> bool
     ensures { MatchBool result (BidsWithin submission.now) (BidsWithin submission.now → ⊥) }
 {
-    for bids in &submission.hours {
-        if !hour_within(bids) {
-            return false;
-        }
-    }
-    true
+    submission.hours.iter().all(hour_within)
 }
 
 fn showing_within(showing: &Showing) -> bool

@@ -1,22 +1,26 @@
 // A resource's day by any two rules: the obligation and availability of both pools, in watts.
 ghost use Rattle.std.specs.Prelude.{◌≡◌, ◌≤◌};
-ghost use Rattle.assessment.specs.Days.{figure, pool_figures, larger_net, both, day_case, day_figures};
+ghost use Rattle.assessment.specs.Days.{figure, pool_figures, larger_net, day_case, day_figures};
 ghost use Rattle.assessment.specs.Laws.{DayLaw, LittleLost};
-ghost use Rattle.assessment.specs.Totals.{Sound};
+ghost use Rattle.assessment.specs.Lines.{PoolWithin};
+ghost use Rattle.assessment.specs.Pairs.{rules_of};
+ghost use Rattle.assessment.specs.Totals.{totals_of};
 
 use crate::day_record::DayRecord;
 use crate::day_result::{DayFigures, DayResult, PoolFigures};
-use crate::hours::{assess_hours, net_showing};
+use crate::hours::net_showing;
 use crate::rule::AvailabilityRule;
+use crate::rule_pair::RulePair;
 use crate::settings::TradeDay;
 use crate::submission::DaySubmission;
 use crate::totals::PoolTotals;
 
 // Exact products first, then one division.
 fn watts(amount: u64, own: PoolTotals, other: PoolTotals, largest: u64) -> u64
-    requires { (Sound 24 own) × ((Sound 24 other) × ((amount ≤ own.owed) × (largest ≤ 2000000))) }
-    ensures is { result ≡ figure amount own other largest }
-    ensures grows { result ≤ figure own.owed own other largest }
+    requires owed { amount ≤ own.owed }
+    requires shown { largest ≤ 2000000 }
+    ensures is { result ≡ figure amount (totals_of own) (totals_of other) largest }
+    ensures grows { result ≤ figure own.owed (totals_of own) (totals_of other) largest }
     ensures capped { result ≤ 2000000000 }
 {
     match (own.hours, other.hours) {
@@ -38,13 +42,13 @@ fn larger_net_showing(submission: &DaySubmission) -> u64
 {
     let generic = net_showing(&submission.generic);
     let flexible = net_showing(&submission.flexible);
-    generic.max(flexible) as u64
+    u64::from(generic.max(flexible))
 }
 
 fn pool_day(own: PoolTotals, other: PoolTotals, largest: u64) -> PoolFigures
-    requires { (Sound 24 own) × ((Sound 24 other) × (largest ≤ 2000000)) }
-    ensures is { result ≡ pool_figures own other largest }
-    ensures within { (result.availability ≤ result.obligation) × (result.obligation ≤ 2000000000) }
+    requires { largest ≤ 2000000 }
+    ensures is { result ≡ pool_figures (totals_of own) (totals_of other) largest }
+    ensures within { PoolWithin result }
 {
     let obligation = watts(own.owed, own, other, largest);
     let day_ahead = watts(own.day_ahead, own, other, largest);
@@ -55,23 +59,20 @@ fn pool_day(own: PoolTotals, other: PoolTotals, largest: u64) -> PoolFigures
     }
 }
 
-// The day's result under the two rules.
-pub fn assess_day<G: AvailabilityRule, F: AvailabilityRule>(
-    day: &TradeDay,
-    submitted: &DayRecord,
-    generic: &G,
-    flexible: &F,
-) -> DayResult
-    ensures is { result.figures ≡ day_figures (both (G.AvailabilityRule.means generic.now) (F.AvailabilityRule.means flexible.now)) (day_case day.now submitted.now) }
-    ensures law { DayLaw (both (G.AvailabilityRule.means generic.now) (F.AvailabilityRule.means flexible.now)) (day_case day.now submitted.now) }
-    ensures little_lost { LittleLost (both (G.AvailabilityRule.means generic.now) (F.AvailabilityRule.means flexible.now)) (day_case day.now submitted.now) }
-{
-    let totals = assess_hours(day, submitted, generic, flexible);
-    let largest = larger_net_showing(&submitted.submission);
-    DayResult {
-        figures: DayFigures {
-            generic: pool_day(totals.generic, totals.flexible, largest),
-            flexible: pool_day(totals.flexible, totals.generic, largest),
-        },
+impl<G: AvailabilityRule, F: AvailabilityRule> RulePair<G, F> {
+    // The day's result under the two rules.
+    pub fn assess_day(&self, day: &TradeDay, submitted: &DayRecord) -> DayResult
+        ensures is { result.figures ≡ day_figures (rules_of G.means F.means self.now) (day_case day.now submitted.now) }
+        ensures law { DayLaw (rules_of G.means F.means self.now) (day_case day.now submitted.now) }
+        ensures little_lost { LittleLost (rules_of G.means F.means self.now) (day_case day.now submitted.now) }
+    {
+        let totals = self.assess_hours(day, submitted);
+        let largest = larger_net_showing(&submitted.submission);
+        DayResult {
+            figures: DayFigures {
+                generic: pool_day(totals.generic, totals.flexible, largest),
+                flexible: pool_day(totals.flexible, totals.generic, largest),
+            },
+        }
     }
 }

@@ -4,7 +4,7 @@ ghost use Rattle.assessment.specs.Records.{ShowingsWithin, BidsWithin, Exemption
 use crate::category::Category;
 use crate::submission::DaySubmission;
 
-#[derive(Clone, Copy)]
+#[derive(Clone, Copy, PartialEq, Eq, Debug)]
 pub struct DayRecord {
     pub category: Category,
     pub submission: DaySubmission,

@@ -1,28 +1,22 @@
 // A day's figures in watts: as plain rows of a day table, and as a day result within its limits.
-ghost use Rattle.std.specs.Prelude.{◌≤◌};
+ghost use Rattle.assessment.specs.Lines.{PoolWithin};
 
-#[derive(Clone, Copy)]
+use pools::per_pool::PerPool;
+
+#[derive(Clone, Copy, PartialEq, Eq, Debug)]
 pub struct PoolFigures {
     pub obligation: u32,
     pub availability: u32,
 }
 
-#[derive(Clone, Copy)]
-pub struct DayFigures {
-    pub generic: PoolFigures,
-    pub flexible: PoolFigures,
-}
+pub type DayFigures = PerPool<PoolFigures>;
 
-// A place of a day table.
-#[derive(Clone, Copy)]
-pub enum DayRow {
-    Empty,
-    Recorded(DayFigures),
-}
+// A place of a day table: None where nothing is recorded.
+pub type DayRow = Option<DayFigures>;
 
-#[derive(Clone, Copy)]
+#[derive(Clone, Copy, PartialEq, Eq, Debug)]
 pub struct DayResult {
     pub figures: DayFigures,
-    ghost generic_within: { (figures.generic.availability ≤ figures.generic.obligation) × (figures.generic.obligation ≤ 2000000000) },
-    ghost flexible_within: { (figures.flexible.availability ≤ figures.flexible.obligation) × (figures.flexible.obligation ≤ 2000000000) },
+    ghost generic_within: { PoolWithin figures.generic },
+    ghost flexible_within: { PoolWithin figures.flexible },
 }

@@ -8,7 +8,7 @@ use crate::settings::TradeDay;
 use crate::trade_month::DayKind;
 use crate::window::in_window;
 
-#[derive(Clone, Copy)]
+#[derive(Clone, Copy, PartialEq, Eq, Debug)]
 pub struct FlexibleRule;
 
 impl AvailabilityRule for FlexibleRule {
@@ -23,7 +23,7 @@ impl AvailabilityRule for FlexibleRule {
     fn assesses(&self, day: &TradeDay, category: Category, hour: u32) -> bool {
         let month = day.settings.month;
         match (day.kind, category.number) {
-            (_, 1) => 6 <= hour && hour <= 22,
+            (_, 1) => (6..=22).contains(&hour),
             (_, 2) => in_window(month.category2_start, hour),
             (DayKind::WorkDay, 3..) => in_window(month.category3_start, hour),
             (_, 0) | (DayKind::OffDay, 3..) => false,

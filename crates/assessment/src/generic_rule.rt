@@ -8,7 +8,7 @@ use crate::settings::TradeDay;
 use crate::trade_month::DayKind;
 use crate::window::in_window;
 
-#[derive(Clone, Copy)]
+#[derive(Clone, Copy, PartialEq, Eq, Debug)]
 pub struct GenericRule;
 
 impl AvailabilityRule for GenericRule {

@@ -1,8 +1,9 @@
 // The letter of each line state.
-ghost use Rattle.std.specs.Prelude.{◌≡◌};
+ghost use Rattle.std.specs.Prelude.{◌≡◌, ◌∷◌, [], Some};
 ghost use Rattle.assessment.specs.Lines.{letter};
 
 use crate::line::LineState;
+use std::fmt;
 
 impl LineState {
     pub fn letter(self) -> u8
@@ -14,5 +15,13 @@ impl LineState {
             LineState::Neutral => b'N',
             LineState::Paid => b'P',
         }
+    }
+}
+
+impl fmt::Display for LineState {
+    ghost output = { λ s. Some (letter s ∷ []) };
+
+    fn fmt<W: fmt::Write>(&self, f: &mut fmt::Formatter<W>) -> fmt::Result {
+        f.write_char(char::from(self.letter()))
     }
 }

@@ -17,6 +17,7 @@ pub mod line;
 pub mod month;
 mod rows;
 pub mod rule;
+pub mod rule_pair;
 pub mod settings;
 pub mod submission;
 #[cfg(test)]

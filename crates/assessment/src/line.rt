@@ -1,6 +1,7 @@
 // A line: one resource's month in one pool.
+use pools::per_pool::PerPool;
 
-#[derive(Clone, Copy)]
+#[derive(Clone, Copy, PartialEq, Eq, Debug)]
 pub enum LineState {
     Empty,
     Charged,
@@ -8,7 +9,7 @@ pub enum LineState {
     Paid,
 }
 
-#[derive(Clone, Copy)]
+#[derive(Clone, Copy, PartialEq, Eq, Debug)]
 pub struct Line {
     // Watts, summed over the month's days.
     pub obligation: u64,
@@ -20,8 +21,5 @@ pub struct Line {
     pub quantity: u64,
 }
 
-#[derive(Clone, Copy)]
-pub struct MonthLines {
-    pub generic: Line,
-    pub flexible: Line,
-}
+// A resource's two lines.
+pub type MonthLines = PerPool<Line>;

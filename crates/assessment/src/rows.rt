@@ -6,9 +6,15 @@ use crate::day_result::{DayFigures, DayResult, DayRow, PoolFigures};
 
 const MOST_WATTS: u32 = 2_000_000_000;
 
-const NOTHING: PoolFigures = PoolFigures {
-    obligation: 0,
-    availability: 0,
+const NOTHING: DayFigures = DayFigures {
+    generic: PoolFigures {
+        obligation: 0,
+        availability: 0,
+    },
+    flexible: PoolFigures {
+        obligation: 0,
+        availability: 0,
+    },
 };
 
 fn pool_within(figures: &PoolFigures) -> bool
@@ -20,24 +26,16 @@ fn pool_within(figures: &PoolFigures) -> bool
 impl DayResult {
     // The row that stores the result.
     pub fn row(&self) -> DayRow
-        ensures { result ≡ DayRow.Recorded self.now.figures }
+        ensures { result ≡ Some self.now.figures }
     {
-        DayRow::Recorded(self.figures)
+        Some(self.figures)
     }
-}
 
-impl DayRow {
-    // The result of the row, nothing for an empty place; None past a day result's limits.
-    pub fn result(&self) -> Option<DayResult>
-        ensures { MatchOption result (RowWithin self.now → ⊥) (λ d. d.figures ≡ figures_in self.now) }
+    // The result in a row, nothing for an empty place; None past a day result's limits.
+    pub fn of_row(row: DayRow) -> Option<DayResult>
+        ensures { MatchOption result (RowWithin row → ⊥) (λ d. d.figures ≡ figures_in row) }
     {
-        let figures = match self {
-            DayRow::Empty => DayFigures {
-                generic: NOTHING,
-                flexible: NOTHING,
-            },
-            DayRow::Recorded(figures) => *figures,
-        };
+        let figures = row.unwrap_or(NOTHING);
         if !pool_within(&figures.generic) || !pool_within(&figures.flexible) {
             return None;
         }

@@ -24,3 +24,22 @@ pub trait AvailabilityRule {
 
     ghost taken: { (x : Self) → TakenWithin (means x) };
 }
+
+// A rule lent is the rule, so a pair of rules may borrow the two that its caller keeps.
+impl<R: AvailabilityRule> AvailabilityRule for &R {
+    ghost means = { λ r. R.means r.now };
+
+    ghost economic = { λ r. R.economic r.now };
+
+    ghost scheduled = { λ r. R.scheduled r.now };
+
+    ghost taken = { λ r. R.taken r.now };
+
+    fn assesses(&self, day: &TradeDay, category: Category, hour: u32) -> bool {
+        (**self).assesses(day, category, hour)
+    }
+
+    fn take(&self, obligation: u32, economic: u32, self_scheduled: u32) -> (u32, u32) {
+        (**self).take(obligation, economic, self_scheduled)
+    }
+}

@@ -5,7 +5,7 @@ ghost use Rattle.assessment.specs.Calendar.{DateWithin, MarksWithin, WindowsWith
 
 use crate::trade_month::{DayKind, TradeMonth};
 
-#[derive(Clone, Copy)]
+#[derive(Clone, Copy, PartialEq, Eq, Debug)]
 pub struct MonthSettings {
     pub month: TradeMonth,
     pub days: u32,
@@ -18,7 +18,7 @@ pub struct MonthSettings {
     ghost first_is: { first_weekday ≡ weekday_of month 1 },
 }
 
-#[derive(Clone, Copy)]
+#[derive(Clone, Copy, PartialEq, Eq, Debug)]
 pub struct TradeDay {
     pub settings: MonthSettings,
     pub day: u32,

@@ -1,26 +1,26 @@
 // A resource's day as it is handed in, in kW: plain numbers, not yet checked.
 
 // What is offered into a market in an hour.
-#[derive(Clone, Copy)]
+#[derive(Clone, Copy, PartialEq, Eq, Debug)]
 pub struct Bid {
     pub economic: u32,
     pub self_scheduled: u32,
 }
 
-#[derive(Clone, Copy)]
+#[derive(Clone, Copy, PartialEq, Eq, Debug)]
 pub struct HourBids {
     pub day_ahead: Bid,
     pub real_time: Bid,
 }
 
 // The capacity shown in a pool, and the part of it that is exempt.
-#[derive(Clone, Copy)]
+#[derive(Clone, Copy, PartialEq, Eq, Debug)]
 pub struct Showing {
     pub shown: u32,
     pub exempt: u32,
 }
 
-#[derive(Clone, Copy)]
+#[derive(Clone, Copy, PartialEq, Eq, Debug)]
 pub struct DaySubmission {
     pub generic: Showing,
     pub flexible: Showing,
@@ -29,7 +29,7 @@ pub struct DaySubmission {
 }
 
 // What a day submission breaks, in the order in which it is tested.
-#[derive(Clone, Copy)]
+#[derive(Clone, Copy, PartialEq, Eq, Debug)]
 pub enum DayBreach {
     KilowattsOverLimit,
     ExemptionOverShowing,

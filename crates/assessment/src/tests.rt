@@ -1,11 +1,8 @@
 // Known figures and limits at their edges, through the public calls.
 use crate::category::Category;
-use crate::day::assess_day;
 use crate::day_record::DayRecord;
 use crate::day_result::{DayFigures, DayRow, PoolFigures};
-use crate::flexible_rule::FlexibleRule;
-use crate::generic_rule::GenericRule;
-use crate::month::month_lines;
+use crate::rule_pair::SHIPPED_RULES;
 use crate::settings::MonthSettings;
 use crate::submission::{Bid, DayBreach, DaySubmission, HourBids, Showing};
 use crate::trade_month::TradeMonth;
@@ -76,17 +73,10 @@ fn month_limits(rt: HostRuntime) {
     }
 }
 
-// Which test a day of this category fails: 0 none, else the first, second or third.
-fn failed_test(category: u32, day: DaySubmission) -> u32 {
-    let Some(category) = Category::new(category) else {
-        return 0;
-    };
-    match DayRecord::new(category, &day) {
-        Ok(_) => 0,
-        Err(DayBreach::KilowattsOverLimit) => 1,
-        Err(DayBreach::ExemptionOverShowing) => 2,
-        Err(DayBreach::FlexibleInCategory0) => 3,
-    }
+// What a day of this category breaks; None where it is taken, or where the category is none.
+fn breach(category: u32, day: DaySubmission) -> Option<DayBreach> {
+    let category = Category::try_from(category).ok()?;
+    DayRecord::new(category, &day).err()
 }
 
 #[test]
@@ -104,13 +94,25 @@ fn day_limits(rt: HostRuntime) {
         exempt: 6,
     };
     assert_eq!(rt;
-        failed_test(1, submission(net(2_000_000), net(2_000_000), most)),
-        0
+        breach(1, submission(net(2_000_000), net(2_000_000), most)),
+        None
     );
-    assert_eq!(rt; failed_test(1, submission(net(2_000_001), net(0), most)), 1);
-    assert_eq!(rt; failed_test(0, submission(exempt, net(1), over)), 1);
-    assert_eq!(rt; failed_test(0, submission(exempt, net(1), most)), 2);
-    assert_eq!(rt; failed_test(0, submission(net(5), net(1), most)), 3);
+    assert_eq!(rt;
+        breach(1, submission(net(2_000_001), net(0), most)),
+        Some(DayBreach::KilowattsOverLimit)
+    );
+    assert_eq!(rt;
+        breach(0, submission(exempt, net(1), over)),
+        Some(DayBreach::KilowattsOverLimit)
+    );
+    assert_eq!(rt;
+        breach(0, submission(exempt, net(1), most)),
+        Some(DayBreach::ExemptionOverShowing)
+    );
+    assert_eq!(rt;
+        breach(0, submission(net(5), net(1), most)),
+        Some(DayBreach::FlexibleInCategory0)
+    );
 }
 
 #[test]
@@ -121,7 +123,7 @@ fn partly_overlapping_windows(rt: HostRuntime) -> Result<(), Fail> {
     let Some(monday) = june.day(4) else {
         return Err(Fail::new("4 June is refused"));
     };
-    let Some(peak) = Category::new(2) else {
+    let Ok(peak) = Category::try_from(2) else {
         return Err(Fail::new("category 2 is refused"));
     };
     let bid = Bid {
@@ -131,7 +133,7 @@ fn partly_overlapping_windows(rt: HostRuntime) -> Result<(), Fail> {
     let Ok(submitted) = DayRecord::new(peak, &submission(net(2000), net(1000), bid)) else {
         return Err(Fail::new("the day is refused"));
     };
-    let figures = assess_day(&monday, &submitted, &GenericRule, &FlexibleRule).figures;
+    let figures = SHIPPED_RULES.assess_day(&monday, &submitted).figures;
     assert_eq!(rt; figures.generic.obligation, 1_166_666);
     assert_eq!(rt; figures.generic.availability, 833_333);
     assert_eq!(rt; figures.flexible.obligation, 833_333);
@@ -140,7 +142,7 @@ fn partly_overlapping_windows(rt: HostRuntime) -> Result<(), Fail> {
 }
 
 fn row(obligation: u32, availability: u32) -> DayRow {
-    DayRow::Recorded(DayFigures {
+    Some(DayFigures {
         generic: PoolFigures {
             obligation,
             availability,
@@ -155,10 +157,10 @@ fn row(obligation: u32, availability: u32) -> DayRow {
 // The letter and quantity of the generic line of one recorded day in June 2018; None where it is refused.
 fn generic_line(day: DayRow) -> Option<(u8, u64)> {
     let june = MonthSettings::new(JUNE)?;
-    let category = Category::new(0)?;
-    let mut rows = [DayRow::Empty; 31];
+    let category = Category::try_from(0).ok()?;
+    let mut rows = [None; 31];
     rows[3] = day;
-    let line = month_lines(&june, category, &rows, &GenericRule, &FlexibleRule)?.generic;
+    let line = SHIPPED_RULES.month_lines(&june, category, &rows)?.generic;
     Some((line.state.letter(), line.quantity))
 }
 

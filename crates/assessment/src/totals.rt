@@ -1,6 +1,5 @@
-// What the two pools come to over some hours of a day.
-ghost use Rattle.std.specs.Prelude.{◌≡◌};
-ghost use Rattle.assessment.specs.Totals.{totals_add, Sound};
+// What a pool comes to over some hours of a day.
+ghost use Rattle.std.specs.Prelude.{◌≡◌, ◌+◌, ◌*◌, ◌≤◌};
 
 // The assessed hours, the kWh owed in them, and the kWh that each market gave.
 #[derive(Clone, Copy)]
@@ -9,15 +8,15 @@ pub struct PoolTotals {
     pub owed: u64,
     pub day_ahead: u64,
     pub real_time: u64,
-}
-
-#[derive(Clone, Copy)]
-pub struct DayTotals {
-    pub generic: PoolTotals,
-    pub flexible: PoolTotals,
+    ghost few: { hours ≤ 24 },
+    ghost capped: { owed ≤ 2000000 * hours },
+    ghost day_ahead_within: { day_ahead ≤ owed },
+    ghost real_time_within: { real_time ≤ owed },
 }
 
 impl PoolTotals {
+    ghost use Rattle.assessment.specs.Totals.{totals_add, totals_of};
+
     pub(crate) const NONE: PoolTotals = PoolTotals {
         hours: 0,
         owed: 0,
@@ -26,8 +25,8 @@ impl PoolTotals {
     };
 
     pub(crate) fn plus(self, other: PoolTotals) -> PoolTotals
-        requires { (Sound 24 self) × (Sound 1 other) }
-        ensures { result ≡ totals_add self other }
+        requires { self.hours + other.hours ≤ 24 }
+        ensures { totals_of result ≡ totals_add (totals_of self) (totals_of other) }
     {
         PoolTotals {
             hours: self.hours + other.hours,

@@ -1,6 +1,6 @@
 // A trade month as it is handed in: plain numbers, not yet checked.
 
-#[derive(Clone, Copy)]
+#[derive(Clone, Copy, PartialEq, Eq, Debug)]
 pub struct TradeMonth {
     pub year: u32,
     pub month: u32,
@@ -12,7 +12,7 @@ pub struct TradeMonth {
     pub category3_start: u32,
 }
 
-#[derive(Clone, Copy)]
+#[derive(Clone, Copy, PartialEq, Eq, Debug)]
 pub enum DayKind {
     WorkDay,
     OffDay,

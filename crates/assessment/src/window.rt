@@ -8,5 +8,5 @@ pub(crate) fn in_window(start: u32, hour: u32) -> bool
     requires { start ≤ 20 }
     ensures { result ≡ in_window start hour }
 {
-    start <= hour && hour < start + WINDOW_HOURS
+    (start..start + WINDOW_HOURS).contains(&hour)
 }

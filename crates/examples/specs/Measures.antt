@@ -1,6 +1,6 @@
 -- What each reading counts.
-use Rattle.examples.specs.declared.words.Measure.{Measure}
-use Rattle.examples.specs.declared.words.Measure.TheVariants as measure
+use Rattle.examples.specs.declared.measure.Measure.{Measure}
+use Rattle.examples.specs.declared.measure.Measure.TheVariants as measure
 use Rattle.examples.specs.declared.reading.DayReading.{DayReading}
 use Rattle.examples.specs.declared.reading.DayReading.TheVariants as day
 use Rattle.examples.specs.declared.reading.LineReading.{LineReading}

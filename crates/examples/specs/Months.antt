@@ -1,10 +1,10 @@
 -- A month given as stretches of like days.
-use Rattle.std.specs.Prelude.{◌≡◌, ℕ, ◌+◌, ◌<◌, Bool, cond, ◌&&◌, ◌⊎◌, List, [], ◌∷◌, map, Some, None, Option, nat_le}
-use Rattle.std.specs.List.{range_with_len}
+use Rattle.std.specs.Prelude.{◌≡◌, ℕ, ◌+◌, ◌<◌, Bool, ◌&&◌, ◌⊎◌, List, map, Some, None, Option, nat_le}
+use Rattle.std.specs.List.{find, range_with_len}
+use Rattle.std.specs.Option.{option_map}
 use Rattle.assessment.specs.Lines.{RowsWithin}
 use Rattle.assessment.specs.declared.trade_month.TradeMonth.{TradeMonth}
-use Rattle.assessment.specs.declared.day_result.DayRow.{DayRow}
-use Rattle.assessment.specs.declared.day_result.DayRow.TheVariants.{Empty, Recorded}
+use Rattle.assessment.specs.Figures.{DayRow}
 use Rattle.examples.specs.declared.plan.Plan.{Plan}
 use Rattle.examples.specs.declared.stretch.Stretch.{Stretch}
 use Rattle.examples.specs.declared.refusal.Refusal.{Refusal}
@@ -16,14 +16,13 @@ abbrev pub covers : Stretch → ℕ → Bool
 covers s d = nat_le s.first d && nat_le d s.last
 
 -- the plan of the first stretch that has the day
-unfoldable pub plan_on : List Stretch → ℕ → Option Plan
-plan_on [] d = None
-plan_on (s ∷ ss) d = cond (covers s d) (Some s.plan) (plan_on ss d)
+abbrev pub plan_on : List Stretch → ℕ → Option Plan
+plan_on ss d = option_map (λ s. s.plan) (find (λ s. covers s d) ss)
 
 -- a day without a plan is empty
 abbrev pub planned_row : TradeMonth → ℕ → Option Plan → DayRow
-planned_row m d None = Empty
-planned_row m d (Some p) = Recorded (planned m d p)
+planned_row m d None = None
+planned_row m d (Some p) = Some (planned m d p)
 
 -- the row of a day
 abbrev pub row_on : TradeMonth → List Stretch → ℕ → DayRow

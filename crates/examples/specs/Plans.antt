@@ -9,7 +9,7 @@ use Rattle.assessment.specs.declared.trade_month.TradeMonth.{TradeMonth}
 use Rattle.assessment.specs.declared.submission.Bid.{Bid}
 use Rattle.assessment.specs.declared.submission.HourBids.{HourBids}
 use Rattle.assessment.specs.declared.submission.DaySubmission.{DaySubmission}
-use Rattle.assessment.specs.declared.day_result.DayFigures.{DayFigures}
+use Rattle.assessment.specs.Figures.{DayFigures}
 use Rattle.examples.specs.declared.plan.Offer.{Offer}
 use Rattle.examples.specs.declared.plan.Offer.TheVariants.{EveryHour, AllBut, Until}
 use Rattle.examples.specs.declared.plan.Plan.{Plan}

@@ -1,15 +1,12 @@
 -- What is read from a day's figures and from a month's lines.
 use Rattle.std.specs.Prelude.{◌≡◌, ℕ, ◌+◌, ◌*◌, ◌/◌, ◌^◌, ◌≤◌, cond, ◌==◌}
-use Rattle.assessment.specs.declared.day_result.DayFigures.{DayFigures}
+use Rattle.assessment.specs.Figures.{DayFigures, MonthLines}
 use Rattle.assessment.specs.declared.line.Line.{Line}
-use Rattle.assessment.specs.declared.line.MonthLines.{MonthLines}
 use Rattle.examples.specs.declared.refusal.Refusal.{Refusal}
 use Rattle.examples.specs.declared.refusal.Refusal.TheVariants.{TooLarge}
 use Rattle.examples.specs.declared.reading.Watts.{Watts}
 use Rattle.examples.specs.declared.reading.Part.{Part}
 use Rattle.examples.specs.declared.reading.Part.TheVariants as part
-use Rattle.examples.specs.declared.reading.Pool.{Pool}
-use Rattle.examples.specs.declared.reading.Pool.TheVariants as pool
 use Rattle.examples.specs.declared.reading.DayReading.{DayReading}
 use Rattle.examples.specs.declared.reading.DayReading.TheVariants as day
 use Rattle.examples.specs.declared.reading.LineReading.{LineReading}
@@ -45,11 +42,6 @@ abbrev pub from_day : Watts → DayReading → ℕ
 from_day w day.Obligation = w.obligation
 from_day w day.Availability = w.availability
 from_day w day.Share = millionths w.availability w.obligation
-
--- the line of a pool
-abbrev pub in_pool : MonthLines → Pool → Line
-in_pool l pool.Generic = l.generic
-in_pool l pool.Flexible = l.flexible
 
 -- what each reading tells of a line
 abbrev pub from_line : Line → LineReading → ℕ

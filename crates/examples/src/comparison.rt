@@ -3,7 +3,7 @@ ghost use Rattle.std.specs.Prelude.{◌≡◌};
 ghost use Rattle.examples.specs.Agreement.{close, meets, raised_if, counted_with};
 
 // A figure as it was published, in watts or in millionths of a whole.
-#[derive(Clone, Copy)]
+#[derive(Clone, Copy, Debug, PartialEq, Eq)]
 pub struct Published {
     pub printed: &'static str,
     pub value: u64,
@@ -11,7 +11,7 @@ pub struct Published {
     pub unit: u64,
 }
 
-#[derive(Clone, Copy)]
+#[derive(Clone, Copy, Debug, PartialEq, Eq)]
 pub struct Comparison {
     pub figure: u64,
     // What the rules give, worked out apart from the library.
@@ -31,17 +31,15 @@ impl Comparison {
     pub(crate) fn holds(&self) -> bool
         ensures { result ≡ meets self.now }
     {
-        match self.published {
-            None => self.figure == self.exact,
-            Some(known) => {
-                self.figure == self.exact && agrees(self.figure, known.value, known.unit)
-            }
-        }
+        self.figure == self.exact
+            && self
+                .published
+                .is_none_or(|known| agrees(self.figure, known.value, known.unit))
     }
 }
 
 // How many figures were compared, how many of them agree, and how many were published.
-#[derive(Clone, Copy)]
+#[derive(Clone, Copy, Debug, Default, PartialEq, Eq)]
 pub struct Tally {
     pub compared: u32,
     pub agreeing: u32,
@@ -56,12 +54,6 @@ fn raised(count: u32, test: bool) -> u32
 }
 
 impl Tally {
-    pub(crate) const NONE: Tally = Tally {
-        compared: 0,
-        agreeing: 0,
-        published: 0,
-    };
-
     pub(crate) fn counted(self, comparison: &Comparison) -> Tally
         ensures { result ≡ counted_with self comparison.now }
     {

@@ -4,6 +4,8 @@
 
 mod comparison;
 mod day_examples;
+mod example;
+mod measure;
 mod month_examples;
 mod months;
 mod plan;
@@ -12,31 +14,17 @@ mod reading;
 mod refusal;
 mod report;
 mod stretch;
-mod words;
 
+use anyhow::ensure;
 use comparison::Tally;
 use day_examples::DAY_EXAMPLES;
 use month_examples::MONTH_EXAMPLES;
-use report::{HEAD, report_day, report_month};
-use std::io;
+use report::{HEAD, report};
 
-fn report_days(rt: &HostRuntime, mut tally: Tally) -> io::Result<Tally> {
-    for example in &DAY_EXAMPLES {
-        tally = report_day(rt, example, tally)?;
-    }
-    Ok(tally)
-}
-
-fn report_months(rt: &HostRuntime, mut tally: Tally) -> io::Result<Tally> {
-    for example in &MONTH_EXAMPLES {
-        tally = report_month(rt, example, tally)?;
-    }
-    Ok(tally)
-}
-
-fn run(rt: &HostRuntime) -> io::Result<()> {
+fn run(rt: &HostRuntime) -> anyhow::Result<()> {
     rt.println(HEAD)?;
-    let tally = report_months(rt, report_days(rt, Tally::NONE)?)?;
+    let tally = report(rt, &DAY_EXAMPLES, Tally::default())?;
+    let tally = report(rt, &MONTH_EXAMPLES, tally)?;
     let Tally {
         compared,
         agreeing,
@@ -45,12 +33,10 @@ fn run(rt: &HostRuntime) -> io::Result<()> {
     println!(rt;
         "{compared} figures compared, {agreeing} agree; {published} of them were published"
     )?;
-    if agreeing < compared {
-        return Err(io::Error::other("some figures differ"));
-    }
+    ensure!(agreeing == compared, "some figures differ");
     Ok(())
 }
 
-fn main(rt: HostRuntime) -> io::Result<()> {
+fn main(rt: HostRuntime) -> anyhow::Result<()> {
     run(&rt)
 }

@@ -2,15 +2,16 @@
 ghost use Rattle.std.specs.Prelude.{◌≡◌, MatchResult};
 ghost use Rattle.examples.specs.Plans.{bid_in, hours_of, submission_of, planned, DayRefused};
 
+use crate::example::Case;
+use crate::reading::DayReading;
 use crate::refusal::Refusal;
 use assessment::category::Category;
-use assessment::day::assess_day;
 use assessment::day_record::DayRecord;
-use assessment::day_result::DayResult;
-use assessment::flexible_rule::FlexibleRule;
-use assessment::generic_rule::GenericRule;
+use assessment::day_result::{DayFigures, DayResult};
+use assessment::rule_pair::SHIPPED_RULES;
 use assessment::settings::MonthSettings;
 use assessment::submission::{Bid, DaySubmission, HourBids, Showing};
+use std::array;
 
 pub const NOTHING: Bid = Bid {
     economic: 0,
@@ -51,18 +52,13 @@ impl Offer {
     fn hours(self) -> [HourBids; 24]
         ensures { result ≡ hours_of self }
     {
-        let mut hours = [HourBids {
-            day_ahead: NOTHING,
-            real_time: NOTHING,
-        }; 24];
-        for passed in 0..24u32 {
-            let bid = self.bid_in(passed + 1);
-            hours[passed as usize] = HourBids {
+        array::from_fn(|passed| {
+            let bid = self.bid_in(passed as u32 + 1);
+            HourBids {
                 day_ahead: bid,
                 real_time: bid,
-            };
-        }
-        hours
+            }
+        })
     }
 }
 
@@ -84,19 +80,32 @@ impl Plan {
     }
 }
 
-// The day's result by the two rules that ship.
-pub(crate) fn assess(settings: &MonthSettings, day: u32, plan: &Plan) -> Result<DayResult, Refusal>
-    ensures { MatchResult result (λ d. d.figures ≡ planned settings.now.month day plan.now) (DayRefused settings.now.month day plan.now) }
-{
-    let Some(trade_day) = settings.day(day) else {
-        return Err(Refusal::NoSuchDay);
-    };
-    let Some(category) = Category::new(plan.category) else {
-        return Err(Refusal::NoSuchCategory);
-    };
-    let submission = plan.submission();
-    match DayRecord::new(category, &submission) {
-        Ok(submitted) => Ok(assess_day(&trade_day, &submitted, &GenericRule, &FlexibleRule)),
-        Err(breach) => Err(Refusal::PastLimits(breach)),
+// A day of the month, and what is planned for it.
+#[derive(Clone, Copy)]
+pub struct PlannedDay {
+    pub day: u32,
+    pub plan: Plan,
+}
+
+impl PlannedDay {
+    // The day's result by the two rules that ship.
+    pub(crate) fn assess(&self, settings: &MonthSettings) -> Result<DayResult, Refusal>
+        ensures { MatchResult result (λ d. d.figures ≡ planned settings.now.month self.now.day self.now.plan) (DayRefused settings.now.month self.now.day self.now.plan) }
+    {
+        let trade_day = settings.day(self.day).ok_or(Refusal::NoSuchDay)?;
+        let category = Category::try_from(self.plan.category)?;
+        let submission = self.plan.submission();
+        let submitted = DayRecord::new(category, &submission)?;
+        Ok(SHIPPED_RULES.assess_day(&trade_day, &submitted))
+    }
+}
+
+impl Case<DayReading> for PlannedDay {
+    ghost figures_of = { λ d m. planned m d.day d.plan };
+
+    ghost refuses = { λ d m. DayRefused m d.day d.plan };
+
+    fn work(&self, settings: &MonthSettings) -> Result<DayFigures, Refusal> {
+        Ok(self.assess(settings)?.figures)
     }
 }

@@ -1,27 +1,69 @@
 // What is read from a day's figures and from a month's lines.
-ghost use Rattle.std.specs.Prelude.{◌≡◌, MatchOption, MatchResult};
-ghost use Rattle.examples.specs.Readings.{millionths, TooMany, average, in_part, from_day, in_pool, from_line, ShareRefused};
+ghost use Rattle.std.specs.Prelude.{◌≡◌, ℕ, ◌+◌, MatchOption, MatchResult};
+ghost use Rattle.examples.specs.Measures.{day_measure, line_measure};
+ghost use Rattle.examples.specs.declared.measure.Measure.{Measure};
+ghost use Rattle.examples.specs.declared.refusal.Refusal.{Refusal};
+ghost use Rattle.pools.specs.PerPool.{entry_of};
+ghost use Rattle.examples.specs.Readings.{millionths, TooMany, average, in_part, from_day, from_line, ShareRefused};
 
+use crate::measure::Measure;
 use crate::refusal::Refusal;
 use assessment::day_result::DayFigures;
-use assessment::line::{Line, MonthLines};
+use assessment::line::{Line, LineState, MonthLines};
+use pools::pool::Pool;
+use std::fmt;
 
 // The pools of a day, and the two together.
-#[derive(Clone, Copy)]
+#[derive(Clone, Copy, Debug, PartialEq, Eq)]
 pub enum Part {
     Generic,
     Flexible,
     Combined,
 }
 
-#[derive(Clone, Copy)]
-pub enum Pool {
-    Generic,
-    Flexible,
+impl From<Pool> for Part {
+    fn from(pool: Pool) -> Part {
+        match pool {
+            Pool::Generic => Part::Generic,
+            Pool::Flexible => Part::Flexible,
+        }
+    }
+}
+
+impl fmt::Display for Part {
+    fn fmt<W: fmt::Write>(&self, f: &mut fmt::Formatter<W>) -> fmt::Result {
+        f.pad(match self {
+            Part::Generic => "generic",
+            Part::Flexible => "flexible",
+            Part::Combined => "combined",
+        })
+    }
+}
+
+// What is read from a worked example.
+pub trait Reading: Copy {
+    // What the library gives for the example.
+    type Worked: Drop;
+    // Whose figure is read.
+    type Part: Copy + Into<Part>;
+
+    ghost figure_of: { Self.Worked → Self.Part → Self → ℕ };
+
+    ghost refuses: { Self.Worked → Self.Part → Refusal → Type 0 };
+
+    ghost measure_of: { Self → Measure };
+
+    fn read(self, worked: &Self::Worked, part: Self::Part) -> Result<u64, Refusal>
+        ensures { MatchResult result (λ x. x ≡ figure_of worked.now part self) (refuses worked.now part) };
+
+    fn measure(self) -> Measure
+        ensures { result ≡ measure_of self };
+
+    fn name(self, worked: &Self::Worked, part: Self::Part) -> &'static str;
 }
 
 // Watts, or the share of the obligation that was available.
-#[derive(Clone, Copy)]
+#[derive(Clone, Copy, Debug, PartialEq, Eq)]
 pub enum DayReading {
     Obligation,
     Availability,
@@ -30,7 +72,7 @@ pub enum DayReading {
 
 // Sums over the month in watts, the share of one in the other, the days
 // assessed, and watts on average over these.
-#[derive(Clone, Copy)]
+#[derive(Clone, Copy, Debug, PartialEq, Eq)]
 pub enum LineReading {
     Obligation,
     Availability,
@@ -40,7 +82,7 @@ pub enum LineReading {
     Quantity,
 }
 
-#[derive(Clone, Copy)]
+#[derive(Clone, Copy, Debug, PartialEq, Eq)]
 pub struct Watts {
     pub obligation: u64,
     pub availability: u64,
@@ -50,19 +92,21 @@ pub struct Watts {
 fn share(availability: u64, obligation: u64) -> Option<u64>
     ensures { MatchOption result (TooMany availability) (λ x. x ≡ millionths availability obligation) }
 {
-    let Some(parts) = availability.checked_mul(1_000_000) else {
-        return None;
-    };
-    if obligation == 0 {
-        return Some(0);
-    }
-    Some(parts / obligation)
+    let parts = availability.checked_mul(1_000_000)?;
+    Some(parts.checked_div(obligation).unwrap_or(0))
 }
 
 fn average_over(watts: u64, days: u32) -> u64
     ensures { result ≡ average watts days }
 {
-    if days == 0 { 0 } else { watts / days as u64 }
+    watts.checked_div(u64::from(days)).unwrap_or(0)
+}
+
+// Watts of both pools.
+fn together(generic: u32, flexible: u32) -> u64
+    ensures { result ≡ generic + flexible }
+{
+    u64::from(generic) + u64::from(flexible)
 }
 
 fn watts_in(figures: &DayFigures, part: Part) -> Watts
@@ -72,64 +116,105 @@ fn watts_in(figures: &DayFigures, part: Part) -> Watts
     let flexible = figures.flexible;
     match part {
         Part::Generic => Watts {
-            obligation: generic.obligation as u64,
-            availability: generic.availability as u64,
+            obligation: u64::from(generic.obligation),
+            availability: u64::from(generic.availability),
         },
         Part::Flexible => Watts {
-            obligation: flexible.obligation as u64,
-            availability: flexible.availability as u64,
+            obligation: u64::from(flexible.obligation),
+            availability: u64::from(flexible.availability),
         },
         Part::Combined => Watts {
-            obligation: generic.obligation as u64 + flexible.obligation as u64,
-            availability: generic.availability as u64 + flexible.availability as u64,
+            obligation: together(generic.obligation, flexible.obligation),
+            availability: together(generic.availability, flexible.availability),
         },
     }
 }
 
-pub(crate) fn read_day(
-    figures: &DayFigures,
-    part: Part,
-    reading: DayReading,
-) -> Result<u64, Refusal>
-    ensures { MatchResult result (λ x. x ≡ from_day (in_part figures.now part) reading) (ShareRefused (in_part figures.now part).availability) }
-{
-    let watts = watts_in(figures, part);
-    match reading {
-        DayReading::Obligation => Ok(watts.obligation),
-        DayReading::Availability => Ok(watts.availability),
-        DayReading::Share => match share(watts.availability, watts.obligation) {
-            Some(parts) => Ok(parts),
-            None => Err(Refusal::TooLarge),
-        },
+impl Reading for DayReading {
+    type Worked = DayFigures;
+
+    type Part = Part;
+
+    ghost figure_of = { λ figures part reading. from_day (in_part figures part) reading };
+
+    ghost refuses = { λ figures part. ShareRefused (in_part figures part).availability };
+
+    ghost measure_of = { day_measure };
+
+    fn read(self, figures: &DayFigures, part: Part) -> Result<u64, Refusal> {
+        let watts = watts_in(figures, part);
+        match self {
+            DayReading::Obligation => Ok(watts.obligation),
+            DayReading::Availability => Ok(watts.availability),
+            DayReading::Share => {
+                share(watts.availability, watts.obligation).ok_or(Refusal::TooLarge)
+            }
+        }
+    }
+
+    fn measure(self) -> Measure {
+        match self {
+            DayReading::Obligation | DayReading::Availability => Measure::Watts,
+            DayReading::Share => Measure::Share,
+        }
+    }
+
+    fn name(self, _figures: &DayFigures, _part: Part) -> &'static str {
+        match self {
+            DayReading::Obligation => "obligation",
+            DayReading::Availability => "availability",
+            DayReading::Share => "share available",
+        }
     }
 }
 
-pub(crate) fn line_in(lines: &MonthLines, pool: Pool) -> Line
-    ensures { result ≡ in_pool lines.now pool }
-{
-    match pool {
-        Pool::Generic => lines.generic,
-        Pool::Flexible => lines.flexible,
-    }
-}
+impl Reading for LineReading {
+    type Worked = MonthLines;
 
-pub(crate) fn read_line(
-    lines: &MonthLines,
-    pool: Pool,
-    reading: LineReading,
-) -> Result<u64, Refusal>
-    ensures { MatchResult result (λ x. x ≡ from_line (in_pool lines.now pool) reading) (ShareRefused (in_pool lines.now pool).availability) }
-{
-    let line = line_in(lines, pool);
-    match reading {
-        LineReading::Obligation => Ok(line.obligation),
-        LineReading::Availability => Ok(line.availability),
-        LineReading::Share => match share(line.availability, line.obligation) {
-            Some(parts) => Ok(parts),
-            None => Err(Refusal::TooLarge),
-        },
-        LineReading::Days => Ok(line.days as u64),
-        LineReading::Average => Ok(average_over(line.obligation, line.days)),
-        LineReading::Quantity => Ok(line.quantity),
+    type Part = Pool;
+
+    ghost figure_of = { λ lines pool reading. from_line (entry_of lines pool) reading };
+
+    ghost refuses = { λ lines pool. ShareRefused (entry_of lines pool).availability };
+
+    ghost measure_of = { line_measure };
+
+    fn read(self, lines: &MonthLines, pool: Pool) -> Result<u64, Refusal> {
+        let line = lines.get(pool);
+        match self {
+            LineReading::Obligation => Ok(line.obligation),
+            LineReading::Availability => Ok(line.availability),
+            LineReading::Share => {
+                share(line.availability, line.obligation).ok_or(Refusal::TooLarge)
+            }
+            LineReading::Days => Ok(u64::from(line.days)),
+            LineReading::Average => Ok(average_over(line.obligation, line.days)),
+            LineReading::Quantity => Ok(line.quantity),
+        }
+    }
+
+    fn measure(self) -> Measure {
+        match self {
+            LineReading::Share => Measure::Share,
+            LineReading::Days => Measure::Days,
+            LineReading::Obligation
+            | LineReading::Availability
+            | LineReading::Average
+            | LineReading::Quantity => Measure::Watts,
+        }
+    }
+
+    // A quantity is named by the line's state.
+    fn name(self, lines: &MonthLines, pool: Pool) -> &'static str {
+        match (self, lines.get(pool).state) {
+            (LineReading::Obligation, _) => "obligation, summed",
+            (LineReading::Availability, _) => "availability, summed",
+            (LineReading::Share, _) => "share available",
+            (LineReading::Days, _) => "days assessed",
+            (LineReading::Average, _) => "average capacity",
+            (LineReading::Quantity, LineState::Charged) => "quantity charged",
+            (LineReading::Quantity, LineState::Paid) => "quantity paid",
+            (LineReading::Quantity, LineState::Empty | LineState::Neutral) => "quantity",
+        }
     }
 }

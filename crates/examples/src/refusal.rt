@@ -1,8 +1,13 @@
 // Why the library would not work an example.
-use assessment::submission::DayBreach;
-use std::io;
+ghost use Rattle.std.specs.Prelude.{◌≡◌};
+ghost use Rattle.examples.specs.declared.refusal.Refusal.TheVariants.{NoSuchCategory, PastLimits};
 
-#[derive(Clone, Copy)]
+use assessment::category::UnknownCategory;
+use assessment::submission::DayBreach;
+use std::error::Error;
+use std::fmt;
+
+#[derive(Clone, Copy, Debug, PartialEq, Eq)]
 pub enum Refusal {
     NoSuchMonth,
     NoSuchDay,
@@ -12,9 +17,9 @@ pub enum Refusal {
     TooLarge,
 }
 
-impl Refusal {
-    fn words(&self) -> &'static str {
-        match self {
+impl fmt::Display for Refusal {
+    fn fmt<W: fmt::Write>(&self, f: &mut fmt::Formatter<W>) -> fmt::Result {
+        f.write_str(match self {
             Refusal::NoSuchMonth => "the month or its windows are outside the limits",
             Refusal::NoSuchDay => "the month lacks the day",
             Refusal::NoSuchCategory => "there is no such category",
@@ -27,12 +32,24 @@ impl Refusal {
             }
             Refusal::RowsPastLimits => "a day row is outside the limits",
             Refusal::TooLarge => "a figure is too large",
-        }
+        })
     }
 }
 
-impl From<Refusal> for io::Error {
-    fn from(refusal: Refusal) -> io::Error {
-        io::Error::other(refusal.words())
+impl Error for Refusal {}
+
+impl From<UnknownCategory> for Refusal {
+    ghost from_gives = { λ _ r. r ≡ NoSuchCategory };
+
+    fn from(_: UnknownCategory) -> Refusal {
+        Refusal::NoSuchCategory
+    }
+}
+
+impl From<DayBreach> for Refusal {
+    ghost from_gives = { λ breach r. r ≡ PastLimits breach };
+
+    fn from(breach: DayBreach) -> Refusal {
+        Refusal::PastLimits(breach)
     }
 }

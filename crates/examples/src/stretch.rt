@@ -5,15 +5,16 @@ ghost use Rattle.assessment.specs.Lines.{lines_of};
 ghost use Rattle.assessment.specs.Rules.{generic_rule, flexible_rule};
 ghost use Rattle.examples.specs.Months.{covers, plan_on, row_on, rows_of, RowRefused, RowsRefused, LinesRefused};
 
-use crate::plan::{Plan, assess};
+use crate::example::Case;
+use crate::plan::{Plan, PlannedDay};
+use crate::reading::LineReading;
 use crate::refusal::Refusal;
 use assessment::category::Category;
 use assessment::day_result::DayRow;
-use assessment::flexible_rule::FlexibleRule;
-use assessment::generic_rule::GenericRule;
 use assessment::line::MonthLines;
-use assessment::month::month_lines;
+use assessment::rule_pair::SHIPPED_RULES;
 use assessment::settings::MonthSettings;
+use std::array;
 
 // The same plan on each day from the first to the last.
 #[derive(Clone, Copy)]
@@ -31,53 +32,54 @@ impl Stretch {
     }
 }
 
-// The plan of the first stretch that has the day.
-fn plan_on(stretches: &[Stretch], day: u32) -> Option<Plan>
-    ensures { result ≡ plan_on stretches.now day }
-{
-    for stretch in stretches {
-        if stretch.has(day) {
-            return Some(stretch.plan);
+// A month of a resource, given as stretches of like days.
+#[derive(Clone, Copy)]
+pub struct PlannedMonth {
+    // The category of the resource's lines.
+    pub category: u32,
+    pub stretches: &'static [Stretch],
+}
+
+impl PlannedMonth {
+    // The plan of the first stretch that has the day.
+    fn plan_on(&self, day: u32) -> Option<Plan>
+        ensures { result ≡ plan_on self.now.stretches.now day }
+    {
+        self.stretches
+            .iter()
+            .find(|stretch| stretch.has(day))
+            .map(|stretch| stretch.plan)
+    }
+
+    // The row of a day, empty where no stretch has it.
+    fn row_on(&self, settings: &MonthSettings, day: u32) -> Result<DayRow, Refusal>
+        ensures { MatchResult result (λ row. row ≡ row_on settings.now.month self.now.stretches.now day) (RowRefused settings.now.month self.now.stretches.now day) }
+    {
+        match self.plan_on(day) {
+            None => Ok(None),
+            Some(plan) => Ok(PlannedDay { day, plan }.assess(settings)?.row()),
         }
     }
-    None
-}
 
-// The row of a day, empty where no stretch has it.
-fn row_on(settings: &MonthSettings, stretches: &[Stretch], day: u32) -> Result<DayRow, Refusal>
-    ensures { MatchResult result (λ row. row ≡ row_on settings.now.month stretches.now day) (RowRefused settings.now.month stretches.now day) }
-{
-    match plan_on(stretches, day) {
-        None => Ok(DayRow::Empty),
-        Some(plan) => Ok(assess(settings, day, &plan)?.row()),
+    // The rows of the days 1 to 31, or the first refusal.
+    fn rows(&self, settings: &MonthSettings) -> Result<[DayRow; 31], Refusal>
+        ensures { MatchResult result (λ all. all ≡ rows_of settings.now.month self.now.stretches.now) (RowsRefused settings.now.month self.now.stretches.now) }
+    {
+        let rows: [_; 31] = array::from_fn(|past| self.row_on(settings, past as u32 + 1));
+        rows.try_map(|row| row)
     }
 }
 
-fn rows(settings: &MonthSettings, stretches: &[Stretch]) -> Result<[DayRow; 31], Refusal>
-    ensures { MatchResult result (λ all. all ≡ rows_of settings.now.month stretches.now) (RowsRefused settings.now.month stretches.now) }
-{
-    let mut rows = [DayRow::Empty; 31];
-    for past in 0..31u32 {
-        let row = row_on(settings, stretches, past + 1)?;
-        rows[past as usize] = row;
-    }
-    Ok(rows)
-}
+impl Case<LineReading> for PlannedMonth {
+    ghost figures_of = { λ p m. lines_of (both generic_rule flexible_rule) m p.category (rows_of m p.stretches.now) };
 
-// The two lines of a resource of this category, by the two rules that ship.
-pub(crate) fn lines(
-    settings: &MonthSettings,
-    category: u32,
-    stretches: &[Stretch],
-) -> Result<MonthLines, Refusal>
-    ensures { MatchResult result (λ l. l ≡ lines_of (both generic_rule flexible_rule) settings.now.month category (rows_of settings.now.month stretches.now)) (LinesRefused settings.now.month category stretches.now) }
-{
-    let Some(line_category) = Category::new(category) else {
-        return Err(Refusal::NoSuchCategory);
-    };
-    let rows = rows(settings, stretches)?;
-    match month_lines(settings, line_category, &rows, &GenericRule, &FlexibleRule) {
-        Some(lines) => Ok(lines),
-        None => Err(Refusal::RowsPastLimits),
+    ghost refuses = { λ p m. LinesRefused m p.category p.stretches.now };
+
+    // The two lines of the resource, by the two rules that ship.
+    fn work(&self, settings: &MonthSettings) -> Result<MonthLines, Refusal> {
+        let category = Category::try_from(self.category)?;
+        let rows = self.rows(settings)?;
+        let lines = SHIPPED_RULES.month_lines(settings, category, &rows);
+        lines.ok_or(Refusal::RowsPastLimits)
     }
 }

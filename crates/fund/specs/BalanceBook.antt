@@ -1,9 +1,9 @@
 -- What the balance book means: its state is the two balances, and eight places are always free.
 use Rattle.std.specs.Prelude.{◌+◌, ◌-◌, false}
 use Rattle.fund.specs.Balances.{Balances, at, put}
-use Rattle.fund.specs.PerPool.{cents_of}
+use Rattle.fund.specs.Cents.{cents_of}
 use Rattle.fund.specs.Meaning.{FundMeaning}
-use Rattle.fund.specs.declared.pool.Standing.TheVariants.{Binding}
+use Rattle.fund.specs.declared.standing.Standing.TheVariants.{Binding}
 use Rattle.fund.specs.declared.balance_book.BalanceBook.{BalanceBook}
 
 -- Its state.

@@ -1,7 +1,7 @@
 -- Amounts of money, in cents, for each of the two pools.
 use Rattle.std.specs.Prelude.{ℕ, ◌≤◌}
-use Rattle.fund.specs.declared.pool.Pool.{Pool}
-use Rattle.fund.specs.declared.pool.Pool.TheVariants.{Generic, Flexible}
+use Rattle.pools.specs.declared.pool.Pool.{Pool}
+use Rattle.pools.specs.declared.pool.Pool.TheVariants.{Generic, Flexible}
 
 -- The most cents that a balance may have.
 abbrev pub limit : ℕ

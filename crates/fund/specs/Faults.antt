@@ -1,16 +1,16 @@
 -- What each fault of a book carries: its number, its layer and its place.
 use Rattle.std.specs.Prelude.{ℕ, Some, None, Option}
-use Rattle.fund.specs.declared.pool.Pool.{Pool}
+use Rattle.pools.specs.declared.pool.Pool.{Pool}
 use Rattle.fund.specs.declared.fault.BookFault.{BookFault}
 use Rattle.fund.specs.declared.fault.BookFault.TheVariants.{UnfitPlaces, NoFreePlace, OverLimit, AboveBalance, NoAdvisoryMonths}
-use Rattle.fund.specs.declared.fault.FaultLabel.{FaultLabel}
+use Rattle.fund.specs.declared.label.Label.{Label}
 
 -- A label of the book's layer, whose letter is B.
-abbrev pub labelled : ℕ → Option Pool → FaultLabel
+abbrev pub labelled : ℕ → Option Pool → Label (Option Pool)
 labelled n p = record { number = n; layer = 66; place = p }
 
 -- The faults of a book. Those about a posting have its pool as their place, the others none.
-abbrev pub label : BookFault → FaultLabel
+abbrev pub label : BookFault → Label (Option Pool)
 label UnfitPlaces = labelled 30 None
 label (NoFreePlace p) = labelled 31 (Some p)
 label (OverLimit p) = labelled 32 (Some p)

@@ -1,63 +1,15 @@
--- What the journal means: its state is the postings written so far and the number of its places.
-use Rattle.std.specs.Prelude.{ℕ, zero, suc, ◌-◌, ◌≤◌, false, List, [], ◌∷◌, ◌++◌, length, take, vec_items, vec_len}
+-- What the journal means: its state is its pages.
+use Rattle.std.specs.Prelude.{◌-◌, false, length, vec_items}
 use Rattle.fund.specs.Meaning.{FundMeaning}
-use Rattle.fund.specs.Postings.{balance, Kept}
-use Rattle.fund.specs.declared.pool.Pool.{Pool}
-use Rattle.fund.specs.declared.pool.Pool.TheVariants.{Generic, Flexible}
-use Rattle.fund.specs.declared.pool.Standing.TheVariants.{Binding}
-use Rattle.fund.specs.declared.posting.Direction.{Direction}
+use Rattle.fund.specs.Postings.{balance}
+use Rattle.fund.specs.Pages.{Pages, pages, posting, with_posting, pages_ruled_off}
+use Rattle.fund.specs.declared.standing.Standing.TheVariants.{Binding}
 use Rattle.fund.specs.declared.posting.Direction.TheVariants.{In, Out}
-use Rattle.fund.specs.declared.posting.Posting.{Posting}
 use Rattle.fund.specs.declared.journal.Journal.{Journal}
 
--- A journal is kept in 8 to 65,536 places.
-abbrev pub Fit : ℕ → Type 0
-Fit n = (8 ≤ n) × (n ≤ 65536)
-
--- The postings, the earliest first, and the number of places.
-pub record Pages : Type 0 where
-  pub postings : List Posting
-  pub places : ℕ
-
--- The state of a journal: the places in use, in their order.
+-- The state of a journal: its postings in their order, and its size.
 abbrev pub pages_of : Journal → Pages
-pages_of j = record { postings = take j.used (vec_items j.places); places = vec_len j.places }
-
--- The postings have places, and leave a balance within the limit in each pool.
-pub record PagesSound (s : Pages) : Type 0 where
-  pub sized : Fit s.places
-  pub fits : length s.postings ≤ s.places
-  pub generic : Kept s.postings Generic
-  pub flexible : Kept s.postings Flexible
-
--- A journal starts empty.
-abbrev pub blank_pages : ℕ → Pages
-blank_pages n = record { postings = []; places = n }
-
--- An amount posted into or out of a pool.
-abbrev pub posting : Direction → Pool → ℕ → Posting
-posting d p a = record { pool = p; direction = d; amount = a }
-
--- One posting more.
-abbrev pub with_posting : Pages → Posting → Pages
-with_posting s x = record { postings = s.postings ++ x ∷ []; places = s.places }
-
--- What is brought forward of a balance: one posting, or none for a balance of 0.
-abbrev pub brought : Pool → ℕ → List Posting
-brought p zero = []
-brought p (suc n) = posting In p (suc n) ∷ []
-
--- For inner contracts: what is brought forward, written after the postings that there are.
-abbrev pub with_brought : Pages → Pool → ℕ → Pages
-with_brought s p n = record { postings = s.postings ++ brought p n; places = s.places }
-
--- Both balances brought forward into n places, the generic pool's first.
-abbrev pub pages_from : ℕ → ℕ → ℕ → Pages
-pages_from n g f = record { postings = brought Generic g ++ brought Flexible f; places = n }
-
--- Ruled off, a journal holds what is brought forward of its balances and nothing else.
-abbrev pub pages_ruled_off : Pages → Pages
-pages_ruled_off s = pages_from s.places (balance s.postings Generic) (balance s.postings Flexible)
+pages_of j = pages (vec_items j.postings) j.size
 
 -- Each posting fills a place, and the balances are those of the postings.
 abbrev pub journal_book : FundMeaning Pages

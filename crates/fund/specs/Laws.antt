@@ -2,9 +2,9 @@
 use Rattle.std.specs.Prelude.{◌≡◌, ℕ, ◌+◌, ◌<◌, ◌≤◌, cond, List, [], ◌∷◌, ◌++◌, length, nat_lt}
 use Rattle.fund.specs.Balances.{in_pool}
 use Rattle.fund.specs.Meaning.{FundMeaning, Call, stands, posts_in, posts_out, rules_off, Takes, after, Unmoved}
-use Rattle.fund.specs.declared.pool.Pool.{Pool}
-use Rattle.fund.specs.declared.pool.Standing.{Standing}
-use Rattle.fund.specs.declared.pool.Standing.TheVariants.{Binding, Advisory}
+use Rattle.pools.specs.declared.pool.Pool.{Pool}
+use Rattle.fund.specs.declared.standing.Standing.{Standing}
+use Rattle.fund.specs.declared.standing.Standing.TheVariants.{Binding, Advisory}
 
 -- An amount in binding standing, else 0.
 abbrev pub if_binding : Standing → ℕ → ℕ

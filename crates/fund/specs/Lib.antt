@@ -1,14 +1,15 @@
 pub mod Names
 pub mod Faults
 pub mod Balances
+pub mod Cents
 pub mod Meaning
 pub mod Laws
 pub mod Postings
-pub mod PerPool
 pub mod BalanceBook
+pub mod Pages
 pub mod Journal
 pub mod Overlay
 pub mod Overlaid
 pub mod LawsLemmas
 pub mod PostingsLemmas
-pub mod Pages
+pub mod JournalLemmas

@@ -1,16 +1,19 @@
--- How pools and standings are printed.
-use Rattle.std.specs.Prelude.{ℕ, List, codes}
-use Rattle.fund.specs.declared.pool.Pool.{Pool}
-use Rattle.fund.specs.declared.pool.Pool.TheVariants.{Generic, Flexible}
-use Rattle.fund.specs.declared.pool.Standing.{Standing}
-use Rattle.fund.specs.declared.pool.Standing.TheVariants.{Binding, Advisory}
-
--- The letters G and F.
-abbrev pub pool_letter : Pool → ℕ
-pool_letter Generic = 71
-pool_letter Flexible = 70
+-- How standings are printed, and by which numbers they are read.
+use Rattle.std.specs.Prelude.{◌≡◌, ℕ, ◌<◌, List, Result, MatchResult, codes}
+use Rattle.fund.specs.declared.standing.Standing.{Standing}
+use Rattle.fund.specs.declared.standing.Standing.TheVariants.{Binding, Advisory}
+use Rattle.fund.specs.declared.standing.UnknownStanding.{UnknownStanding}
 
 -- The word of each standing.
 abbrev pub standing_word : Standing → List ℕ
 standing_word Binding = codes "BINDING"
 standing_word Advisory = codes "ADVISORY"
+
+-- The number of each standing.
+abbrev pub standing_number : Standing → ℕ
+standing_number Binding = 0
+standing_number Advisory = 1
+
+-- A number is read as the standing whose number it is. One above 1 is no standing's, and is handed back.
+abbrev pub ReadsStanding : ℕ → Result Standing UnknownStanding → Type 0
+ReadsStanding n r = MatchResult r (λ d. standing_number d ≡ n) (λ e. (e.0 ≡ n) × (1 < n))

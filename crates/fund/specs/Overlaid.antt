@@ -6,10 +6,10 @@ use Rattle.fund.specs.Meaning.{FundMeaning, Lawful, Holds, Stood, Posted, RuledO
 use Rattle.fund.specs.Laws.{Run, end}
 use Rattle.fund.specs.Overlay.{Overlaid, OverlaidSound, Showing, lower_book, own_entries, ShowingWithin, overlaid, over, overlay_book, LowerStaysBinding, LowerUntouched}
 use Rattle.fund.specs.LawsLemmas.{sound_after}
-use Rattle.fund.specs.declared.pool.Pool.{Pool}
-use Rattle.fund.specs.declared.pool.Pool.TheVariants.{Generic, Flexible}
-use Rattle.fund.specs.declared.pool.Standing.{Standing}
-use Rattle.fund.specs.declared.pool.Standing.TheVariants.{Binding, Advisory}
+use Rattle.pools.specs.declared.pool.Pool.{Pool}
+use Rattle.pools.specs.declared.pool.Pool.TheVariants.{Generic, Flexible}
+use Rattle.fund.specs.declared.standing.Standing.{Standing}
+use Rattle.fund.specs.declared.standing.Standing.TheVariants.{Binding, Advisory}
 
 within_at : (e : Balances) → Within e → (q : Pool) → at e q ≤ limit
 within_at e k Generic = k.generic

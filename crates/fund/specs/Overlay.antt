@@ -1,13 +1,15 @@
 -- What the advisory overlay means, by what the book below it means.
-use Rattle.std.specs.Prelude.{◌≡◌, ℕ, ◌+◌, ◌-◌, true, List}
+use Rattle.std.specs.Prelude.{◌≡◌, ℕ, ◌+◌, ◌-◌, true, List, Option, Some, None}
 use Rattle.fund.specs.Balances.{Balances, Within, at, put}
-use Rattle.fund.specs.PerPool.{cents_of}
+use Rattle.fund.specs.Cents.{cents_of}
 use Rattle.fund.specs.Meaning.{FundMeaning, Lawful, Call}
 use Rattle.fund.specs.Laws.{Run, end, Postings}
-use Rattle.fund.specs.declared.pool.Pool.{Pool}
-use Rattle.fund.specs.declared.pool.Pool.TheVariants.{Generic, Flexible}
-use Rattle.fund.specs.declared.pool.Standing.{Standing}
-use Rattle.fund.specs.declared.pool.Standing.TheVariants.{Binding, Advisory}
+use Rattle.pools.specs.declared.per_pool.PerPool.{PerPool}
+use Rattle.pools.specs.declared.pool.Pool.{Pool}
+use Rattle.pools.specs.declared.pool.Pool.TheVariants.{Generic, Flexible}
+use Rattle.fund.specs.declared.standing.Standing.{Standing}
+use Rattle.fund.specs.declared.standing.Standing.TheVariants.{Binding, Advisory}
+use Rattle.fund.specs.declared.balance.Balance.{Balance}
 use Rattle.fund.specs.declared.overlay.Overlay.{Overlay}
 
 -- What an overlay shows: the book below, or entries of its own in an advisory month.
@@ -20,14 +22,14 @@ pub record Overlaid (S : Type 0) : Type 0 where
   pub lower : S
   pub showing : Showing
 
--- Its entries are shown only in advisory standing.
-abbrev pub showing_of : Standing → Balances → Showing
-showing_of Binding e = lower_book
-showing_of Advisory e = own_entries e
+-- Where it has entries, it shows them.
+abbrev pub showing_of : Option (PerPool Balance) → Showing
+showing_of None = lower_book
+showing_of (Some e) = own_entries (cents_of e)
 
 -- The state of an overlay, by the state of the book below.
 abbrev pub overlaid_of : {B S : Type 0} → (B → S) → Overlay B → Overlaid S
-overlaid_of state o = record { lower = state o.lower; showing = showing_of o.standing (cents_of o.entries) }
+overlaid_of state o = record { lower = state o.lower; showing = showing_of o.entries }
 
 -- Entries that are shown are within the limit.
 abbrev pub ShowingWithin : Showing → Type 0

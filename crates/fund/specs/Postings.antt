@@ -1,7 +1,7 @@
 -- Postings, what they come to, and the balance that they leave.
 use Rattle.std.specs.Prelude.{ℕ, ◌+◌, ◌-◌, ◌≤◌, List, sum_by}
 use Rattle.fund.specs.Balances.{limit, in_pool}
-use Rattle.fund.specs.declared.pool.Pool.{Pool}
+use Rattle.pools.specs.declared.pool.Pool.{Pool}
 use Rattle.fund.specs.declared.posting.Direction.{Direction}
 use Rattle.fund.specs.declared.posting.Direction.TheVariants.{In, Out}
 use Rattle.fund.specs.declared.posting.Posting.{Posting}

@@ -1,14 +1,14 @@
 -- What one posting more, and what is brought forward, make of the sums and the balances.
-use Rattle.std.specs.Prelude.{◌≡◌, ℕ, zero, suc, ◌+◌, ◌-◌, ◌≤◌, List, [], ◌∷◌, ◌++◌, length, sum_by, refl}
-use Rattle.std.proofs.Common.{sym, ap, ◌∙◌, arith}
+use Rattle.std.specs.Prelude.{◌≡◌, ℕ, zero, suc, ◌+◌, ◌-◌, ◌≤◌, List, [], ◌∷◌, ◌++◌, length, refl}
+use Rattle.std.proofs.Common.{sym, ◌∙◌, arith}
 use Rattle.std.proofs.lemmas.List.Sums.{sum_by_push, sum_by-append}
 use Rattle.std.proofs.lemmas.List.{length-append}
 use Rattle.fund.specs.Balances.{limit, in_pool}
 use Rattle.fund.specs.Meaning.{with_at}
 use Rattle.fund.specs.Postings.{counted, posted, balance, Kept}
-use Rattle.fund.specs.Journal.{posting, brought}
-use Rattle.fund.specs.declared.pool.Pool.{Pool}
-use Rattle.fund.specs.declared.pool.Pool.TheVariants.{Generic, Flexible}
+use Rattle.fund.specs.Pages.{posting, brought}
+use Rattle.pools.specs.declared.pool.Pool.{Pool}
+use Rattle.pools.specs.declared.pool.Pool.TheVariants.{Generic, Flexible}
 use Rattle.fund.specs.declared.posting.Direction.{Direction}
 use Rattle.fund.specs.declared.posting.Direction.TheVariants.{In, Out}
 use Rattle.fund.specs.declared.posting.Posting.{Posting}
@@ -24,11 +24,6 @@ posted_push d p xs x = sum_by_push (counted (record { pool = p; direction = d })
 posted_append : (d : Direction) (p : Pool) (xs ys : List Posting) → posted d p (xs ++ ys) ≡ posted d p xs + posted d p ys
 unfolding posted
 posted_append d p xs ys = sum_by-append (counted (record { pool = p; direction = d })) xs ys
-
--- what a total of the postings answers
-pub posted_total : (d : Direction) (p : Pool) {xs ys : List Posting} {n : ℕ} → ys ≡ xs → n ≡ sum_by (counted (record { pool = p; direction = d })) ys → n ≡ posted d p xs
-unfolding posted
-posted_total d p e h = h ∙ ap (sum_by (counted (record { pool = p; direction = d }))) e
 
 -- an amount in p, as it counts for q, against what a table f of balances holds
 more_fits : (f : Pool → ℕ) (q p : Pool) (a : ℕ) → f q ≤ limit → f p + a ≤ limit → f q + in_pool q p a ≤ limit

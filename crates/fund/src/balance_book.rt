@@ -7,8 +7,9 @@ ghost use Rattle.std.proofs.Common.{rules};
 use crate::balance::Balance;
 use crate::book::FundBook;
 use crate::fault::BookFault;
-use crate::per_pool::PerPool;
-use crate::pool::{Pool, Standing};
+use crate::standing::Standing;
+use pools::per_pool::PerPool;
+use pools::pool::Pool;
 
 const SIZE: usize = 8;
 
@@ -23,10 +24,7 @@ impl BalanceBook {
         ensures { balances_of result ≡ no_money }
     {
         BalanceBook {
-            balances: PerPool {
-                generic: Balance::new(0),
-                flexible: Balance::new(0),
-            },
+            balances: PerPool::of(|_| Balance::new(0)),
         }
     }
 }

@@ -2,10 +2,11 @@
 ghost use Rattle.std.specs.Prelude.{◌≡◌, ◌≤◌, MatchResult};
 ghost use Rattle.fund.specs.Balances.{limit};
 ghost use Rattle.fund.specs.Meaning.{FundMeaning, Lawful, Taken, Refuses, stands, posts_in, posts_out};
-ghost use Rattle.fund.specs.declared.pool.Pool.{Pool};
+ghost use Rattle.pools.specs.declared.pool.Pool.{Pool};
 
 use crate::fault::BookFault;
-use crate::pool::{Pool, Standing};
+use crate::standing::Standing;
+use pools::pool::Pool;
 
 // No balance is above this many cents.
 pub const LIMIT: u64 = 7_000_000_000_000;

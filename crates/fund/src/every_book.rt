@@ -3,10 +3,10 @@ ghost use Rattle.std.specs.Prelude.{◌≡◌};
 ghost use Rattle.fund.specs.Laws.{RunsGoOn, Conserves, AdvisoryLeavesBinding, Roomy, with_room, RulingOffMakesRoom, FourPostingsHavePlaces};
 
 use crate::book::FundBook;
-use crate::pool::Pool;
+use pools::pool::Pool;
 
 // A pool's balances.
-#[derive(Clone, Copy)]
+#[derive(Clone, Copy, PartialEq, Eq, Debug)]
 pub struct Account {
     pub binding: u64,
     pub shown: u64,

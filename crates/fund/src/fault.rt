@@ -2,7 +2,8 @@
 ghost use Rattle.std.specs.Prelude.{◌≡◌};
 ghost use Rattle.fund.specs.Faults.{label};
 
-use crate::pool::Pool;
+use crate::label::Label;
+use pools::pool::Pool;
 
 #[derive(Clone, Copy, PartialEq, Eq, Debug)]
 pub enum BookFault {
@@ -13,19 +14,11 @@ pub enum BookFault {
     NoAdvisoryMonths,
 }
 
-// What a refusal prints of a fault: its number, the letter of the layer that it comes from, and the pool that it is about.
-#[derive(Clone, Copy)]
-pub struct FaultLabel {
-    pub number: u8,
-    pub layer: char,
-    pub place: Option<Pool>,
-}
-
 const LAYER: char = 'B';
 
 impl BookFault {
-    // The number, layer and place by which the fault is told.
-    pub fn label(self) -> FaultLabel
+    // The label by which the fault is told. Its place is the pool of a posting.
+    pub fn label(self) -> Label<Option<Pool>>
         ensures { result ≡ label self }
     {
         let (number, place) = match self {
@@ -35,7 +28,7 @@ impl BookFault {
             BookFault::AboveBalance(pool) => (33, Some(pool)),
             BookFault::NoAdvisoryMonths => (34, None),
         };
-        FaultLabel {
+        Label {
             number,
             layer: LAYER,
             place,

@@ -1,22 +1,19 @@
 // The journal: each posting fills one of the places handed in, until it is ruled off.
-ghost use Rattle.std.specs.Prelude.{◌≤◌, take, vec_len};
-ghost use Rattle.fund.specs.Postings.{Kept};
-ghost use Rattle.fund.specs.declared.pool.Pool.TheVariants.{Generic, Flexible};
+ghost use Rattle.std.specs.Prelude.{◌≤◌, vec_items, vec_capacity};
+ghost use Rattle.fund.specs.Pages.{PagesSound, pages};
 
 use crate::fault::BookFault;
 use crate::posting::Posting;
 
 pub mod books;
 
-// The first `used` places are written.
+// The postings lie in the places handed in: `size` of them, so that writing one never needs memory.
 #[derive(Drop)]
 pub struct Journal {
-    places: Vec<Posting>,
-    used: usize,
-    ghost sized: { (8 ≤ vec_len places) × (vec_len places ≤ 65536) },
-    ghost fits: { used ≤ vec_len places },
-    ghost generic: { Kept (take used places.items) Generic },
-    ghost flexible: { Kept (take used places.items) Flexible },
+    postings: Vec<Posting>,
+    size: usize,
+    ghost sound: { PagesSound (pages (vec_items postings) size) },
+    ghost roomy: { size ≤ vec_capacity postings },
 }
 
 // Places that no journal can be kept in, handed back with the fault.

@@ -7,11 +7,10 @@ pub mod book;
 pub mod every_book;
 pub mod fault;
 pub mod journal;
-mod names;
+pub mod label;
 pub mod overlay;
-pub mod per_pool;
-pub mod pool;
 pub mod posting;
+pub mod standing;
 #[cfg(test)]
 mod tests;
 pub mod total;

@@ -7,15 +7,15 @@ ghost use Rattle.std.proofs.Common.{rules};
 use crate::balance::Balance;
 use crate::book::FundBook;
 use crate::fault::BookFault;
-use crate::per_pool::PerPool;
-use crate::pool::{Pool, Standing};
+use crate::standing::Standing;
+use pools::per_pool::PerPool;
+use pools::pool::Pool;
 
-// In advisory standing the entries are what it shows; else it shows the lower book.
+// In an advisory month it shows entries of its own, else the lower book.
 #[derive(Drop)]
 pub struct Overlay<B: FundBook> {
     lower: B,
-    standing: Standing,
-    entries: PerPool<Balance>,
+    entries: Option<PerPool<Balance>>,
 }
 
 impl<B: FundBook> Overlay<B> {
@@ -30,11 +30,7 @@ impl<B: FundBook> Overlay<B> {
         let _ = lower.stand(Standing::Binding);
         Overlay {
             lower,
-            standing: Standing::Binding,
-            entries: PerPool {
-                generic: Balance::new(0),
-                flexible: Balance::new(0),
-            },
+            entries: None,
         }
     }
 }
@@ -63,16 +59,16 @@ impl<B: FundBook> FundBook for Overlay<B> {
     }
 
     fn shown(&self, pool: Pool) -> u64 {
-        match self.standing {
-            Standing::Binding => self.lower.shown(pool),
-            Standing::Advisory => self.entries.get(pool).cents(),
+        match &self.entries {
+            None => self.lower.shown(pool),
+            Some(entries) => entries.get(pool).cents(),
         }
     }
 
     fn standing(&self) -> Standing {
-        match self.standing {
-            Standing::Binding => self.lower.standing(),
-            Standing::Advisory => Standing::Advisory,
+        match self.entries {
+            None => self.lower.standing(),
+            Some(_) => Standing::Advisory,
         }
     }
 
@@ -81,9 +77,9 @@ impl<B: FundBook> FundBook for Overlay<B> {
     }
 
     fn free_places(&self) -> usize {
-        match self.standing {
-            Standing::Binding => self.lower.free_places(),
-            Standing::Advisory => self.lower.size(),
+        match self.entries {
+            None => self.lower.free_places(),
+            Some(_) => self.lower.size(),
         }
     }
 
@@ -92,38 +88,38 @@ impl<B: FundBook> FundBook for Overlay<B> {
     }
 
     fn stand(&mut self, standing: Standing) -> Result<(), BookFault> {
-        match (standing, self.standing) {
-            (Standing::Binding, _) => self.lower.stand(Standing::Binding)?,
-            (Standing::Advisory, Standing::Binding) => {
-                self.entries = PerPool {
-                    generic: Balance::new(self.lower.shown(Pool::Generic)),
-                    flexible: Balance::new(self.lower.shown(Pool::Flexible)),
-                };
+        match standing {
+            Standing::Binding => {
+                self.lower.stand(Standing::Binding)?;
+                self.entries = None;
             }
-            (Standing::Advisory, Standing::Advisory) => {}
+            Standing::Advisory => {
+                if self.entries.is_none() {
+                    self.entries = Some(PerPool::of(|pool| Balance::new(self.lower.shown(pool))));
+                }
+            }
         }
-        self.standing = standing;
         Ok(())
     }
 
     fn post_in(&mut self, pool: Pool, amount: u64) -> Result<(), BookFault> {
-        match self.standing {
-            Standing::Binding => self.lower.post_in(pool, amount),
-            Standing::Advisory => self.entries.entry(pool).post_in(pool, amount),
+        match &mut self.entries {
+            None => self.lower.post_in(pool, amount),
+            Some(entries) => entries.entry(pool).post_in(pool, amount),
         }
     }
 
     fn post_out(&mut self, pool: Pool, amount: u64) -> Result<(), BookFault> {
-        match self.standing {
-            Standing::Binding => self.lower.post_out(pool, amount),
-            Standing::Advisory => self.entries.entry(pool).post_out(pool, amount),
+        match &mut self.entries {
+            None => self.lower.post_out(pool, amount),
+            Some(entries) => entries.entry(pool).post_out(pool, amount),
         }
     }
 
     fn rule_off(&mut self) {
-        match self.standing {
-            Standing::Binding => self.lower.rule_off(),
-            Standing::Advisory => {}
+        match self.entries {
+            None => self.lower.rule_off(),
+            Some(_) => {}
         }
     }
 }

@@ -1,16 +1,16 @@
 // A posting as a journal's place holds it, and the amount that it tells.
 ghost use Rattle.fund.specs.Postings.{counted};
 
-use crate::pool::Pool;
 use crate::total::TellsAmount;
+use pools::pool::Pool;
 
-#[derive(Clone, Copy, PartialEq, Eq)]
+#[derive(Clone, Copy, PartialEq, Eq, Debug)]
 pub enum Direction {
     In,
     Out,
 }
 
-#[derive(Clone, Copy)]
+#[derive(Clone, Copy, PartialEq, Eq, Debug)]
 pub struct Posting {
     pub pool: Pool,
     pub direction: Direction,
@@ -18,7 +18,7 @@ pub struct Posting {
 }
 
 // The postings of one pool in one direction.
-#[derive(Clone, Copy)]
+#[derive(Clone, Copy, PartialEq, Eq, Debug)]
 pub struct Side {
     pub pool: Pool,
     pub direction: Direction,

@@ -5,16 +5,16 @@ use crate::every_book::{account_of, make_room};
 use crate::fault::BookFault;
 use crate::journal::Journal;
 use crate::overlay::Overlay;
-use crate::pool::{Pool, Standing};
 use crate::posting::Posting;
+use crate::standing::Standing;
+use pools::pool::Pool;
 use std::process::Abort;
 use std::test::Fail;
 
 fn journal(rt: &HostRuntime, places: usize) -> Result<Journal, Fail> {
-    match Journal::over(vec![in rt.alloc(); Posting::BLANK; places]?) {
-        Ok(journal) => Ok(journal),
-        Err(_) => Err(Fail::new("the places are refused")),
-    }
+    Journal::over(vec![in rt.alloc(); Posting::BLANK; places]?).map_err(|_| Fail::new(
+        "the places are refused",
+    ))
 }
 
 fn refuses(rt: &(impl Abort + AllocGlobal), places: usize) -> Result<(), Fail> {

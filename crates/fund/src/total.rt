@@ -15,9 +15,8 @@ pub trait TellsAmount {
 pub fn total<T: TellsAmount>(entries: &[T], selection: T::Selection) -> u128
     ensures { result ≡ sum_by (T.TellsAmount.told selection) entries.now }
 {
-    let mut sum: u128 = 0;
-    for entry in entries {
-        sum += u128::from(entry.amount(selection));
-    }
-    sum
+    entries
+        .iter()
+        .map(|entry| u128::from(entry.amount(selection)))
+        .sum()
 }

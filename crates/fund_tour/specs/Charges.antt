@@ -1,7 +1,7 @@
 -- What a charge counts for a pool.
 use Rattle.std.specs.Prelude.{ℕ}
 use Rattle.fund.specs.Balances.{in_pool}
-use Rattle.fund.specs.declared.pool.Pool.{Pool}
+use Rattle.pools.specs.declared.pool.Pool.{Pool}
 use Rattle.fund_tour.specs.declared.charges.Charge.{Charge}
 
 -- The cents of a charge, if it is of that pool, else 0.

@@ -5,10 +5,10 @@ ghost use Rattle.fund_tour.specs.Charges.{charged};
 
 use fund::book::FundBook;
 use fund::fault::BookFault;
-use fund::pool::Pool;
 use fund::total::{TellsAmount, total};
+use pools::pool::Pool;
 
-#[derive(Clone, Copy)]
+#[derive(Clone, Copy, PartialEq, Eq, Debug)]
 pub struct Charge {
     pub pool: Pool,
     pub cents: u64,

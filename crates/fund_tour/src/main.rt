@@ -9,10 +9,11 @@ use fund::balance_book::BalanceBook;
 use fund::book::FundBook;
 use fund::every_book::{account_of, make_room};
 use fund::fault::BookFault;
-use fund::journal::Journal;
+use fund::journal::{Journal, RefusedPlaces};
 use fund::overlay::Overlay;
-use fund::pool::{Pool, Standing};
 use fund::posting::Posting;
+use fund::standing::Standing;
+use pools::pool::Pool;
 use std::io;
 
 const CHARGES: [Charge; 3] = [
@@ -36,26 +37,26 @@ fn print_answer(rt: &HostRuntime, call: &str, answer: Result<(), BookFault>) -> 
         return println!(rt; "{call}: taken");
     };
     let label = fault.label();
-    print!(rt; "{call}: REFUSED {} {}", label.number, label.layer)?;
+    let (number, layer) = (label.number, label.layer);
     match label.place {
-        Some(pool) => println!(rt; " {}", char::from(pool.letter())),
-        None => println!(rt; ""),
+        Some(pool) => println!(rt; "{call}: REFUSED {number} {layer} {pool}"),
+        None => println!(rt; "{call}: REFUSED {number} {layer}"),
     }
 }
 
 // Prints what is looked up in a book: standing, binding and shown balance of each pool, free places.
 fn print_fund<B: FundBook>(rt: &HostRuntime, book: &B) -> io::Result<()> {
-    print!(rt; "FUND {}", book.standing().word())?;
-    for pool in [Pool::Generic, Pool::Flexible] {
-        let account = account_of(book, pool);
-        print!(rt;
-            " {} {} {}",
-            char::from(pool.letter()),
-            account.binding,
-            account.shown
-        )?;
-    }
-    println!(rt; " FREE {}", book.free_places())
+    let generic = account_of(book, Pool::Generic);
+    let flexible = account_of(book, Pool::Flexible);
+    println!(rt;
+        "FUND {} G {} {} F {} {} FREE {}",
+        book.standing(),
+        generic.binding,
+        generic.shown,
+        flexible.binding,
+        flexible.shown,
+        book.free_places()
+    )
 }
 
 // One month: each pool's charges come in, and a part of them goes out again as payments.
@@ -84,11 +85,7 @@ fn print_journal(rt: &HostRuntime, journal: &mut Journal) -> io::Result<()> {
     print_answer(rt, "charges G", collect(journal, &CHARGES, Pool::Generic))?;
     make_room(journal, 4);
     for posting in journal.postings() {
-        println!(rt;
-            "brought forward {} {}",
-            char::from(posting.pool.letter()),
-            posting.amount
-        )?;
+        println!(rt; "brought forward {} {}", posting.pool, posting.amount)?;
     }
     print_month(rt, journal)
 }
@@ -104,30 +101,23 @@ fn print_advisory_month<B: FundBook>(rt: &HostRuntime, book: &mut B) -> io::Resu
 
 // Seven places are refused and come back; with one more they are enough.
 fn open_journal(rt: &HostRuntime) -> anyhow::Result<Journal> {
-    match Journal::over(vec![in rt.alloc(); Posting::BLANK; 7]?) {
-        Ok(journal) => Ok(journal),
-        Err(refused) => {
-            print_answer(rt, "7 places", Err(refused.fault))?;
-            let mut places = refused.places;
-            places.push(Posting::BLANK)?;
-            match Journal::over(places) {
-                Ok(journal) => Ok(journal),
-                Err(_) => Err(anyhow!("eight places were refused")),
-            }
-        }
-    }
-}
-
-fn run(rt: &HostRuntime) -> anyhow::Result<()> {
-    print_balance_book(rt)?;
-    println!(rt; "JOURNAL")?;
-    let mut journal = open_journal(rt)?;
-    print_journal(rt, &mut journal)?;
-    println!(rt; "ADVISORY OVERLAY")?;
-    print_advisory_month(rt, &mut Overlay::over(journal))?;
-    Ok(())
+    let RefusedPlaces { fault, mut places } = match Journal::over(
+        vec![in rt.alloc(); Posting::BLANK; 7]?,
+    ) {
+        Ok(journal) => return Ok(journal),
+        Err(refused) => refused,
+    };
+    print_answer(rt, "7 places", Err(fault))?;
+    places.push(Posting::BLANK)?;
+    Journal::over(places).map_err(|_| anyhow!("eight places were refused"))
 }
 
 fn main(rt: HostRuntime) -> anyhow::Result<()> {
-    run(&rt)
+    print_balance_book(&rt)?;
+    println!(rt; "JOURNAL")?;
+    let mut journal = open_journal(&rt)?;
+    print_journal(&rt, &mut journal)?;
+    println!(rt; "ADVISORY OVERLAY")?;
+    print_advisory_month(&rt, &mut Overlay::over(journal))?;
+    Ok(())
 }

@@ -1,11 +1,9 @@
 -- What the numbers of a call stand for, by their places after its name.
-use Rattle.std.specs.Prelude.{ℕ, List, replicate, slice_index}
+use Rattle.std.specs.Prelude.{ℕ, List, replicate, slice_index, Some}
 use Rattle.assessment.specs.declared.submission.HourBids.{HourBids}
-use Rattle.assessment.specs.declared.submission.DaySubmission.{DaySubmission}
-use Rattle.assessment.specs.declared.day_result.DayRow.TheVariants.{Recorded}
 use Rattle.settlement.specs.declared.tables.MonthTerms.{MonthTerms}
 use Rattle.ledger.specs.declared.calls.PlacedRow.{PlacedRow}
-use Rattle.ledger.specs.declared.calls.SubmittedDay.{SubmittedDay}
+use Rattle.settlement.specs.declared.tables.SubmittedDay.{SubmittedDay}
 
 -- the i-th number after the name, from 0
 abbrev pub word : List ℕ → ℕ → ℕ
@@ -30,18 +28,10 @@ terms_of ns = record {
 abbrev pub row_of : List ℕ → PlacedRow
 row_of ns = record {
   place = word ns 0;
-  row = Recorded (record {
+  row = Some (record {
     generic = record { obligation = word ns 1; availability = word ns 2 };
     flexible = record { obligation = word ns 3; availability = word ns 4 };
   });
-}
-
--- two showings, then their exemptions, generic first; the same bids in each hour
-abbrev pub submission_of : List ℕ → HourBids → DaySubmission
-submission_of ss bids = record {
-  generic = record { shown = word ss 0; exempt = word ss 2 };
-  flexible = record { shown = word ss 1; exempt = word ss 3 };
-  hours = replicate 24 bids;
 }
 
 -- day-ahead economic and self-scheduled, then real-time
@@ -51,7 +41,7 @@ bids_from ns = record {
   real_time = record { economic = word ns 8; self_scheduled = word ns 9 };
 }
 
--- resource, day, two showings, two exemptions, four bids
+-- resource, day, two showings, then their exemptions, generic first, and four bids, the same in each hour
 abbrev pub day_of : List ℕ → SubmittedDay
 day_of ns = record {
   at = record { resource = word ns 0; day = word ns 1 };

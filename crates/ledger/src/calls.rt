@@ -1,34 +1,27 @@
 // The calls of a script, and the call that a line is.
-ghost use Rattle.std.specs.Prelude.{◌≡◌, length, MatchOption, ◌≢◌};
-ghost use Rattle.ledger.specs.Calls.{terms_of, row_of, day_of, submission_of};
+ghost use Rattle.std.specs.Prelude.{◌≡◌, length, MatchResult, ◌≢◌};
+ghost use Rattle.ledger.specs.Calls.{terms_of, row_of, day_of};
 
 use crate::books::{BookPlan, plan};
 use crate::line_fault::LineFault;
 use crate::numbers::{short_numbers, wide_number};
-use crate::verbs::{Verb, verb_named};
+use crate::verbs::Verb;
 use assessment::day_result::{DayFigures, DayRow, PoolFigures};
 use assessment::submission::{Bid, DaySubmission, HourBids, Showing};
 use assessment::trade_month::TradeMonth;
 use settlement::fault::ResourceDay;
-use settlement::tables::{LoadEntry, MonthTerms, RosterEntry};
+use settlement::tables::{LoadEntry, MonthTerms, RosterEntry, SubmittedDay};
 use std::alloc::Global;
 
-// A resource's day, and what is submitted for it.
-#[derive(Clone, Copy)]
-pub struct SubmittedDay {
-    pub at: ResourceDay,
-    pub submission: DaySubmission,
-}
-
 // A row, and its place in the day table.
-#[derive(Clone, Copy)]
+#[derive(Clone, Copy, PartialEq, Eq, Debug)]
 pub struct PlacedRow {
     pub place: u32,
     pub row: DayRow,
 }
 
 // How long the day table and the line table are.
-#[derive(Clone, Copy)]
+#[derive(Clone, Copy, PartialEq, Eq, Debug)]
 pub struct TableLengths {
     pub days: u32,
     pub lines: u32,
@@ -48,43 +41,46 @@ pub enum Call {
 
 // Categories as a roster: each resource's identifier is its number.
 fn roster(heap: Global, categories: &[u32]) -> Result<Vec<RosterEntry>, LineFault> {
-    let mut entries = Vec::new(heap);
-    for (number, category) in categories.iter().enumerate() {
-        let Ok(identifier) = u32::try_from(number) else {
-            return Err(LineFault::NoMemory);
-        };
-        entries.push(RosterEntry {
-            identifier,
-            category: *category,
-        })?;
-    }
-    Ok(entries)
+    categories
+        .iter()
+        .enumerate()
+        .map(|(number, category)| -> Result<RosterEntry, LineFault> {
+            let identifier = u32::try_from(number).map_err(|_| LineFault::NoMemory)?;
+            Ok(RosterEntry {
+                identifier,
+                category: *category,
+            })
+        })
+        .try_collect(heap)
 }
 
 fn load_entries(heap: Global, words: &[&str]) -> Result<Vec<LoadEntry>, LineFault> {
-    let mut entries = Vec::new(heap);
-    for (before, word) in words.iter().enumerate() {
-        entries.push(LoadEntry {
-            load: wide_number(word, before + 1)?,
-            generic: 0,
-            flexible: 0,
-        })?;
-    }
-    Ok(entries)
+    words
+        .iter()
+        .enumerate()
+        .map(|(before, word)| -> Result<LoadEntry, LineFault> {
+            Ok(LoadEntry {
+                load: wide_number(word, before + 1)?,
+                generic: 0,
+                flexible: 0,
+            })
+        })
+        .try_collect(heap)
 }
 
-fn table_lengths(numbers: &[u32]) -> Option<TableLengths> {
-    match numbers {
-        [days, lines] => Some(TableLengths {
-            days: *days,
-            lines: *lines,
-        }),
-        _ => None,
-    }
+// The N numbers of a call that takes so many.
+fn exactly<const N: usize>(numbers: &[u32]) -> Result<[u32; N], LineFault>
+    ensures { MatchResult result (λ ns. ns ≡ numbers.now) (λ _. length numbers.now ≢ N) }
+{
+    <[u32; N]>::try_from(numbers).map_err(|_| LineFault::WrongCount(N))
 }
 
-fn placed_row(numbers: &[u32]) -> Option<PlacedRow>
-    ensures { MatchOption result (length numbers.now ≢ 5) (λ p. p ≡ row_of numbers.now) }
+fn table_lengths([days, lines]: [u32; 2]) -> TableLengths {
+    TableLengths { days, lines }
+}
+
+fn placed_row(numbers: [u32; 5]) -> PlacedRow
+    ensures { result ≡ row_of numbers }
 {
     let [
         place,
@@ -92,28 +88,25 @@ fn placed_row(numbers: &[u32]) -> Option<PlacedRow>
         generic_availability,
         flexible_obligation,
         flexible_availability,
-    ] = numbers
-    else {
-        return None;
-    };
+    ] = numbers;
     let figures = DayFigures {
         generic: PoolFigures {
-            obligation: *generic_obligation,
-            availability: *generic_availability,
+            obligation: generic_obligation,
+            availability: generic_availability,
         },
         flexible: PoolFigures {
-            obligation: *flexible_obligation,
-            availability: *flexible_availability,
+            obligation: flexible_obligation,
+            availability: flexible_availability,
         },
     };
-    Some(PlacedRow {
-        place: *place,
-        row: DayRow::Recorded(figures),
-    })
+    PlacedRow {
+        place,
+        row: Some(figures),
+    }
 }
 
-fn month_terms(numbers: &[u32]) -> Option<MonthTerms>
-    ensures { MatchOption result (length numbers.now ≢ 8) (λ t. t ≡ terms_of numbers.now) }
+fn month_terms(numbers: [u32; 8]) -> MonthTerms
+    ensures { result ≡ terms_of numbers }
 {
     let [
         year,
@@ -124,95 +117,71 @@ fn month_terms(numbers: &[u32]) -> Option<MonthTerms>
         category3_start,
         price,
         standing,
-    ] = numbers
-    else {
-        return None;
-    };
-    Some(MonthTerms {
+    ] = numbers;
+    MonthTerms {
         month: TradeMonth {
-            year: *year,
-            month: *month,
-            holidays: *holidays,
-            generic_start: *generic_start,
-            category2_start: *category2_start,
-            category3_start: *category3_start,
+            year,
+            month,
+            holidays,
+            generic_start,
+            category2_start,
+            category3_start,
         },
-        price: *price,
-        standing: *standing,
-    })
-}
-
-// What is shown, what is exempt of it, and the bids of every hour.
-fn submission(showings: &[u32; 4], bids: HourBids) -> DaySubmission
-    ensures { result ≡ submission_of showings.now bids }
-{
-    let [generic, flexible, generic_exempt, flexible_exempt] = *showings;
-    DaySubmission {
-        generic: Showing {
-            shown: generic,
-            exempt: generic_exempt,
-        },
-        flexible: Showing {
-            shown: flexible,
-            exempt: flexible_exempt,
-        },
-        hours: [bids; 24],
+        price,
+        standing,
     }
 }
 
-fn submitted_day(numbers: &[u32]) -> Option<SubmittedDay>
-    ensures { MatchOption result (length numbers.now ≢ 10) (λ d. d ≡ day_of numbers.now) }
+fn submitted_day(numbers: [u32; 10]) -> SubmittedDay
+    ensures { result ≡ day_of numbers }
 {
-    let [resource, day, sg, sf, eg, ef, de, ds, re, rs] = numbers else {
-        return None;
-    };
+    let [resource, day, sg, sf, eg, ef, de, ds, re, rs] = numbers;
     let bids = HourBids {
         day_ahead: Bid {
-            economic: *de,
-            self_scheduled: *ds,
+            economic: de,
+            self_scheduled: ds,
         },
         real_time: Bid {
-            economic: *re,
-            self_scheduled: *rs,
+            economic: re,
+            self_scheduled: rs,
         },
     };
-    Some(SubmittedDay {
-        at: ResourceDay {
-            resource: *resource,
-            day: *day,
+    SubmittedDay {
+        at: ResourceDay { resource, day },
+        submission: DaySubmission {
+            generic: Showing {
+                shown: sg,
+                exempt: eg,
+            },
+            flexible: Showing {
+                shown: sf,
+                exempt: ef,
+            },
+            hours: [bids; 24],
         },
-        submission: submission(&[*sg, *sf, *eg, *ef], bids),
-    })
-}
-
-fn counted<T: Drop>(parsed: Option<T>, wanted: usize) -> Result<T, LineFault> {
-    match parsed {
-        Some(value) => Ok(value),
-        None => Err(LineFault::WrongCount(wanted)),
     }
 }
 
-// The call of this name over its numbers.
-fn numbered_call(heap: Global, verb: Verb, numbers: &[u32]) -> Result<Call, LineFault> {
-    match verb {
-        Verb::Roster => Ok(Call::Roster(roster(heap, numbers)?)),
-        Verb::Tables => Ok(Call::Tables(counted(table_lengths(numbers), 2)?)),
-        Verb::Row => Ok(Call::Row(counted(placed_row(numbers), 5)?)),
-        Verb::Open => Ok(Call::Open(counted(month_terms(numbers), 8)?)),
-        Verb::Record => Ok(Call::Record(counted(submitted_day(numbers), 10)?)),
-        Verb::Close if numbers.is_empty() => Ok(Call::Close),
-        Verb::Start | Verb::Close | Verb::Release => Err(LineFault::WrongCount(0)),
-    }
+fn numbers<const N: usize>(heap: Global, words: &[&str]) -> Result<[u32; N], LineFault> {
+    exactly(short_numbers(heap, words)?.as_slice())
 }
 
 fn call_of(heap: Global, verb: Verb, words: &[&str]) -> Result<Call, LineFault> {
     match verb {
         Verb::Start => Ok(Call::Start(plan(words)?)),
-        Verb::Release => Ok(Call::Release(load_entries(heap, words)?)),
-        _ => {
-            let numbers = short_numbers(heap, words)?;
-            numbered_call(heap, verb, numbers.as_slice())
+        Verb::Roster => {
+            let categories = short_numbers(heap, words)?;
+            Ok(Call::Roster(roster(heap, categories.as_slice())?))
         }
+        Verb::Tables => Ok(Call::Tables(table_lengths(numbers(heap, words)?))),
+        Verb::Row => Ok(Call::Row(placed_row(numbers(heap, words)?))),
+        Verb::Open => Ok(Call::Open(month_terms(numbers(heap, words)?))),
+        Verb::Record => Ok(Call::Record(submitted_day(numbers(heap, words)?))),
+        Verb::Close => {
+            let [] = numbers::<0>(heap, words)?;
+            Ok(Call::Close)
+        }
+        Verb::Release => Ok(Call::Release(load_entries(heap, words)?)),
     }
 }
 
@@ -222,8 +191,5 @@ pub(crate) fn parse(heap: Global, line: &str) -> Result<Call, LineFault> {
     let [name, rest @ ..] = words.as_slice() else {
         return Err(LineFault::NoSuchCall);
     };
-    match verb_named(name) {
-        Some(verb) => call_of(heap, verb, rest),
-        None => Err(LineFault::NoSuchCall),
-    }
+    call_of(heap, name.parse()?, rest)
 }

@@ -1,19 +1,19 @@
-// A settlement with the roster and the tables that its calls are handed, and the run of a script over it.
+// A settlement with the roster and the tables that its calls are handed.
 use crate::answers;
-use crate::calls::{Call, PlacedRow, SubmittedDay, TableLengths, parse};
-use crate::line_fault::{LineFault, Stop};
-use crate::script::ScriptLine;
+use crate::calls::{Call, PlacedRow, TableLengths, parse};
+use crate::line_fault::LineFault;
 use assessment::day_result::DayRow;
 use assessment::flexible_rule::FlexibleRule;
 use assessment::generic_rule::GenericRule;
+use assessment::rule_pair::SHIPPED_RULES;
 use fund::book::FundBook;
 use settlement::settlement::Settlement;
-use settlement::tables::{LineEntry, LoadEntry, MonthTerms, RosterEntry};
+use settlement::tables::{LineEntry, LoadEntry, MonthTerms, RosterEntry, SubmittedDay};
 use std::alloc::{AllocError, Global};
 use std::io;
 
 #[derive(Drop)]
-struct Desk<B: FundBook> {
+pub struct Desk<B: FundBook> {
     settlement: Settlement<B, GenericRule, FlexibleRule>,
     roster: Vec<RosterEntry>,
     rows: Vec<DayRow>,
@@ -22,9 +22,9 @@ struct Desk<B: FundBook> {
 
 impl<B: FundBook + Drop> Desk<B> {
     // A settlement started over the book, with nothing to hand to its calls yet.
-    fn new(heap: Global, book: B) -> Desk<B> {
+    pub(crate) fn new(heap: Global, book: B) -> Desk<B> {
         Desk {
-            settlement: Settlement::start(book, GenericRule, FlexibleRule),
+            settlement: Settlement::start(book, SHIPPED_RULES),
             roster: Vec::new(heap),
             rows: Vec::new(heap),
             lines: Vec::new(heap),
@@ -32,7 +32,7 @@ impl<B: FundBook + Drop> Desk<B> {
     }
 
     fn set_tables(&mut self, heap: Global, days: usize, lines: usize) -> Result<(), AllocError> {
-        self.rows = vec![in heap; DayRow::Empty; days]?;
+        self.rows = vec![in heap; None; days]?;
         self.lines = vec![in heap; LineEntry::EMPTY; lines]?;
         Ok(())
     }
@@ -48,11 +48,11 @@ impl<B: FundBook + Drop> Desk<B> {
     }
 
     fn put_row(&mut self, placed: PlacedRow) -> Result<(), LineFault> {
-        let place = placed.place as usize;
-        if place >= self.rows.len() {
-            return Err(LineFault::NoSuchPlace);
-        }
-        self.rows[place] = placed.row;
+        let place = self
+            .rows
+            .get_mut(placed.place as usize)
+            .ok_or(LineFault::NoSuchPlace)?;
+        *place = placed.row;
         Ok(())
     }
 
@@ -67,12 +67,10 @@ impl<B: FundBook + Drop> Desk<B> {
     }
 
     fn record(&mut self, rt: &HostRuntime, day: &SubmittedDay) -> io::Result<()> {
-        match self.settlement.record(
-            self.roster.as_slice(),
-            self.rows.as_mut_slice(),
-            day.at,
-            &day.submission,
-        ) {
+        match self
+            .settlement
+            .record(self.roster.as_slice(), self.rows.as_mut_slice(), day)
+        {
             Ok(figures) => answers::recorded(rt, &figures),
             Err(fault) => answers::refused(rt, fault),
         }
@@ -118,32 +116,12 @@ impl<B: FundBook + Drop> Desk<B> {
         Ok(self.fund(rt)?)
     }
 
-    fn started(&self, rt: &HostRuntime) -> io::Result<()> {
+    pub(crate) fn started(&self, rt: &HostRuntime) -> io::Result<()> {
         answers::taken(rt)?;
         self.fund(rt)
     }
 
-    fn follow(&mut self, rt: &HostRuntime, line: &ScriptLine<'_>) -> Result<(), LineFault> {
-        let call = parse(rt.alloc(), line.text)?;
-        self.call(rt, call)
+    pub(crate) fn follow(&mut self, rt: &HostRuntime, line: &str) -> Result<(), LineFault> {
+        self.call(rt, parse(rt.alloc(), line)?)
     }
-}
-
-// Starts a settlement over the book on the line `start`, and makes the calls of the lines after it.
-pub(crate) fn drive<B: FundBook + Drop>(
-    rt: &HostRuntime,
-    start: &ScriptLine<'_>,
-    rest: &[ScriptLine<'_>],
-    book: B,
-) -> Result<(), Stop> {
-    let mut desk = Desk::new(rt.alloc(), book);
-    if let Err(error) = desk.started(rt) {
-        return Err(start.stop(LineFault::Output(error)));
-    }
-    for line in rest {
-        if let Err(fault) = desk.follow(rt, line) {
-            return Err(line.stop(fault));
-        }
-    }
-    Ok(())
 }

@@ -2,7 +2,7 @@
 use std::alloc::{AllocError, AllocFailed};
 use std::{fmt, io};
 
-#[derive(Drop)]
+#[derive(Debug, Drop)]
 pub enum LineFault {
     NoSuchCall,
     StartComesFirst,
@@ -56,7 +56,7 @@ impl From<io::Error> for LineFault {
     }
 }
 
-#[derive(Drop)]
+#[derive(Debug, Drop)]
 pub enum Stop {
     // The script could not be read.
     Input(io::Error),

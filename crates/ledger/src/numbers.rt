@@ -1,53 +1,39 @@
 // Decimal words as numbers.
-ghost use Rattle.std.specs.Prelude.{◌≡◌, MatchOption};
+ghost use Rattle.std.specs.Prelude.{◌≡◌, ◌<◌, ◌↔◌, IsTrue, true, length, MatchResult};
+ghost use Rattle.std.specs.Str.{all_ascii_digits};
 ghost use Rattle.ledger.specs.Numbers.{Decimal, number};
 
 use crate::line_fault::LineFault;
 use std::alloc::Global;
 
-// The number of a word that is digits alone; None also where it passes 64 bits.
-fn decimal(word: &str) -> Option<u64>
-    ensures { MatchOption result (Decimal 64 word.now → ⊥) (λ n. Decimal 64 word.now × (n ≡ number word.now)) }
+// Whether a word is digits alone, at least one.
+fn is_digits(word: &str) -> bool
+    ensures { IsTrue result ↔ (all_ascii_digits word.now ≡ true) × (0 < length word.now) }
 {
-    if let [b'+', ..] = word.as_bytes() {
-        return None;
-    }
-    match word.parse::<u64>() {
-        Ok(number) => Some(number),
-        Err(_) => None,
-    }
-}
-
-fn all_digits(word: &str) -> bool {
-    for byte in word.bytes() {
-        if !byte.is_ascii_digit() {
-            return false;
-        }
-    }
-    !word.is_empty()
+    !word.is_empty() && word.bytes().all(|byte| byte.is_ascii_digit())
 }
 
 // The number of the word that stands at this place after the call's name.
-pub(crate) fn wide_number(word: &str, at: usize) -> Result<u64, LineFault> {
-    match decimal(word) {
-        Some(number) => Ok(number),
-        None if all_digits(word) => Err(LineFault::TooLarge(at)),
-        None => Err(LineFault::NoNumber(at)),
+pub(crate) fn wide_number(word: &str, at: usize) -> Result<u64, LineFault>
+    ensures { MatchResult result (λ n. Decimal 64 word.now × (n ≡ number word.now)) (λ _. Decimal 64 word.now → ⊥) }
+{
+    if !is_digits(word) {
+        return Err(LineFault::NoNumber(at));
     }
+    word.parse().map_err(|_| LineFault::TooLarge(at))
 }
 
-fn short_number(word: &str, at: usize) -> Result<u32, LineFault> {
-    match u32::try_from(wide_number(word, at)?) {
-        Ok(number) => Ok(number),
-        Err(_) => Err(LineFault::TooLarge(at)),
-    }
+fn short_number(word: &str, at: usize) -> Result<u32, LineFault>
+    ensures { MatchResult result (λ n. Decimal 32 word.now × (n ≡ number word.now)) (λ _. Decimal 32 word.now → ⊥) }
+{
+    u32::try_from(wide_number(word, at)?).map_err(|_| LineFault::TooLarge(at))
 }
 
 // The words as 32-bit numbers.
 pub(crate) fn short_numbers(heap: Global, words: &[&str]) -> Result<Vec<u32>, LineFault> {
-    let mut numbers = Vec::new(heap);
-    for (before, word) in words.iter().enumerate() {
-        numbers.push(short_number(word, before + 1)?)?;
-    }
-    Ok(numbers)
+    words
+        .iter()
+        .enumerate()
+        .map(|(before, word)| short_number(word, before + 1))
+        .try_collect(heap)
 }

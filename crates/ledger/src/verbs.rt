@@ -1,9 +1,8 @@
 // The names of the calls.
-ghost use Rattle.std.specs.Prelude.{◌≡◌, true, MatchOption, ◌≢◌};
-ghost use Rattle.ledger.specs.Names.{name_of, sets_up};
-ghost use Rattle.ledger.specs.declared.verbs.Verb.{Verb};
+use crate::line_fault::LineFault;
+use std::str::FromStr;
 
-#[derive(Clone, Copy)]
+#[derive(Clone, Copy, PartialEq, Eq, Debug)]
 pub enum Verb {
     Start,
     Roster,
@@ -15,36 +14,27 @@ pub enum Verb {
     Release,
 }
 
-// The book, and what later calls are handed.
-fn setup_named(word: &str) -> Option<Verb>
-    ensures { MatchOption result ((v : Verb) → sets_up v ≡ true → word.now ≢ name_of v) (λ v. word.now ≡ name_of v) }
-{
-    if word == "start" {
-        Some(Verb::Start)
-    } else if word == "roster" {
-        Some(Verb::Roster)
-    } else if word == "tables" {
-        Some(Verb::Tables)
-    } else if word == "row" {
-        Some(Verb::Row)
-    } else {
-        None
-    }
-}
-
 // The call of this name.
-pub(crate) fn verb_named(word: &str) -> Option<Verb>
-    ensures { MatchOption result ((v : Verb) → word.now ≢ name_of v) (λ v. word.now ≡ name_of v) }
-{
-    if word == "open" {
-        Some(Verb::Open)
-    } else if word == "record" {
-        Some(Verb::Record)
-    } else if word == "close" {
-        Some(Verb::Close)
-    } else if word == "release" {
-        Some(Verb::Release)
-    } else {
-        setup_named(word)
+impl FromStr for Verb {
+    type Err = LineFault;
+
+    ghost use Rattle.std.specs.Prelude.{◌≡◌, ◌≢◌, MatchResult};
+    ghost use Rattle.ledger.specs.Names.{name_of};
+    ghost use Rattle.ledger.specs.declared.verbs.Verb.{Verb};
+
+    ghost from_str_gives = { λ text r. MatchResult r (λ v. text ≡ name_of v) (λ _. (v : Verb) → text ≢ name_of v) };
+
+    fn from_str(word: &str) -> Result<Verb, LineFault> {
+        match word {
+            "start" => Ok(Verb::Start),
+            "roster" => Ok(Verb::Roster),
+            "tables" => Ok(Verb::Tables),
+            "row" => Ok(Verb::Row),
+            "open" => Ok(Verb::Open),
+            "record" => Ok(Verb::Record),
+            "close" => Ok(Verb::Close),
+            "release" => Ok(Verb::Release),
+            _ => Err(LineFault::NoSuchCall),
+        }
     }
 }

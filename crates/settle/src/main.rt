@@ -1,23 +1,28 @@
 // Reads a month file from standard input, and writes its statement, or its refusal, to standard output.
 #![tactic(auto)]
 
-use statement::job::settle_file;
+use statement::job::{NoStatement, settle_file};
+use std::alloc::AllocError;
 use std::io::{Read, Write};
 use std::process::ExitCode;
 
-fn run(rt: &HostRuntime) -> anyhow::Result<bool> {
+// The status tells a statement from a refusal.
+fn run(rt: &HostRuntime) -> anyhow::Result<ExitCode> {
     let mut file = Vec::new(rt.alloc());
     rt.stdin().read_to_end(&mut file)?;
-    let output = settle_file(rt.alloc(), file.as_slice())?;
-    rt.stdout().write_all(output.bytes.as_slice())?;
-    Ok(output.settled)
+    match settle_file(rt.alloc(), file.as_slice()) {
+        Ok(statement) => {
+            rt.stdout().write_all(statement.as_slice())?;
+            Ok(ExitCode::SUCCESS)
+        }
+        Err(NoStatement::Refused(line)) => {
+            rt.stdout().write_all(line.written())?;
+            Ok(ExitCode::FAILURE)
+        }
+        Err(NoStatement::OutOfMemory) => Err(AllocError.into()),
+    }
 }
 
-// The status tells a statement from a refusal.
 fn main(rt: HostRuntime) -> anyhow::Result<ExitCode> {
-    if run(&rt)? {
-        Ok(ExitCode::SUCCESS)
-    } else {
-        Ok(ExitCode::FAILURE)
-    }
+    run(&rt)
 }

@@ -2,12 +2,12 @@
 use Rattle.std.proofs.Common.{◌≡◌, ℕ, ◌≤◌, List, sym, ap, ◌∙◌, subst}
 use Rattle.assessment.specs.Days.{Rules}
 use Rattle.assessment.specs.declared.trade_month.TradeMonth.{TradeMonth}
-use Rattle.assessment.specs.declared.day_result.DayRow.{DayRow}
+use Rattle.assessment.specs.Figures.{DayRow}
 use Rattle.fund.specs.Balances.{limit}
 use Rattle.fund.specs.Meaning.{FundMeaning}
-use Rattle.fund.specs.declared.per_pool.PerPool.{PerPool}
-use Rattle.fund.specs.declared.pool.Pool.{Pool}
-use Rattle.fund.specs.declared.pool.Pool.TheVariants.{Generic, Flexible}
+use Rattle.pools.specs.declared.per_pool.PerPool.{PerPool}
+use Rattle.pools.specs.declared.pool.Pool.{Pool}
+use Rattle.pools.specs.declared.pool.Pool.TheVariants.{Generic, Flexible}
 use Rattle.settlement.specs.Closing.{pool_closed, pools_closed, lines_closed, fund_of, charged_entries, month_posted, Funded, FundWithin, MayTakeClose, ClosesAt}
 use Rattle.settlement.specs.Recording.{IsOpen}
 use Rattle.settlement.specs.Tables.{AllFit}

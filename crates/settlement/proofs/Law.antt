@@ -6,18 +6,16 @@ use Rattle.std.proofs.lemmas.List.FromFn.{length-range_with_len}
 use Rattle.assessment.proofs.LineLaws.{days_few}
 use Rattle.assessment.specs.Days.{Rules}
 use Rattle.assessment.specs.declared.trade_month.TradeMonth.{TradeMonth}
-use Rattle.assessment.specs.declared.day_result.DayFigures.{DayFigures}
-use Rattle.assessment.specs.declared.day_result.DayRow.{DayRow}
-use Rattle.assessment.specs.declared.day_result.DayRow.TheVariants as row
+use Rattle.assessment.specs.Figures.{DayFigures, DayRow}
 use Rattle.assessment.specs.declared.line.Line.{Line}
 use Rattle.fund.specs.Balances.{limit}
 use Rattle.fund.specs.Meaning.{FundMeaning, Lawful}
-use Rattle.fund.specs.PerPool.{entry_of}
-use Rattle.fund.specs.declared.per_pool.PerPool.{PerPool}
-use Rattle.fund.specs.declared.pool.Pool.{Pool}
-use Rattle.fund.specs.declared.pool.Pool.TheVariants.{Generic, Flexible}
-use Rattle.fund.specs.declared.pool.Standing.{Standing}
-use Rattle.fund.specs.declared.pool.Standing.TheVariants.{Binding, Advisory}
+use Rattle.pools.specs.PerPool.{entry_of}
+use Rattle.pools.specs.declared.per_pool.PerPool.{PerPool}
+use Rattle.pools.specs.declared.pool.Pool.{Pool}
+use Rattle.pools.specs.declared.pool.Pool.TheVariants.{Generic, Flexible}
+use Rattle.fund.specs.declared.standing.Standing.{Standing}
+use Rattle.fund.specs.declared.standing.Standing.TheVariants.{Binding, Advisory}
 use Rattle.settlement.specs.Tables.{AllFit}
 use Rattle.settlement.specs.Views.{View, Phase, fresh, open_at, closed, release_due, date_of, phase_closed}
 use Rattle.settlement.specs.Opening.{started, standing_of, opened, Opens}
@@ -171,7 +169,7 @@ module _ {S : Type 0} (m : FundMeaning S) (sound : S → Type 0) (r : Rules) (la
       → Keeps h v → Opens m v t roster rows a w rows' → Keeps (after_open h t roster a rows') w
   kept_open h v w t roster rows rows' (Ok x) k c =
       let s = law.stood v.book (standing_of t.standing) k.keeps c.0.stands in
-      let emptied : rows' ≡ replicate (31 * length roster) row.Empty = c.2 ∙ ap (λ n. replicate n row.Empty) c.0.fits.1 in
+      let emptied : rows' ≡ replicate (31 * length roster) None = c.2 ∙ ap (λ n. replicate n None) c.0.fits.1 in
       let next : Kept m sound r h.opening h.past (Some (record { month = record { terms = t; roster = roster; records = [] }; rows = rows' })) (opened m v t) =
       record {
         keeps = s.0;
@@ -192,8 +190,8 @@ module _ {S : Type 0} (m : FundMeaning S) (sound : S → Type 0) (r : Rules) (la
       let dated : HasDay (open_at month o.month.terms.price) d.at.day = subst (λ ph. HasDay ph d.at.day) at-month c.0.dated in
       let figures : f ≡ figures_of r (open_at month o.month.terms.price) o.month.roster d.at d.submission =
       c.1 ∙ ap (λ ph. figures_of r ph roster d.at d.submission) at-month ∙ ap (λ x. figures_of r (open_at month o.month.terms.price) x d.at d.submission) h.0 in
-      let stored : rows' ≡ set o.rows (place_of d.at) (row.Recorded (figures_of r (open_at month o.month.terms.price) o.month.roster d.at d.submission)) =
-      c.2 ∙ ap (λ x. set x (place_of d.at) (row.Recorded f)) h.1 ∙ ap (λ x. set o.rows (place_of d.at) (row.Recorded x)) figures in
+      let stored : rows' ≡ set o.rows (place_of d.at) (Some (figures_of r (open_at month o.month.terms.price) o.month.roster d.at d.submission)) =
+      c.2 ∙ ap (λ x. set x (place_of d.at) (Some f)) h.1 ∙ ap (λ x. set o.rows (place_of d.at) (Some x)) figures in
       let more = tallied_more r o.month o.rows d (omega (arith, c.0.known, ap length h.0)) dated.0 (omega (arith, dated.1, days_few month.year month.month)) (rw h.1 at c.0.free) k.current.tallied in
       record {
         keeps = k.keeps;

@@ -1,5 +1,5 @@
 -- The day table holds what the taken records say.
-use Rattle.std.proofs.Common.{◌≡◌, ℕ, zero, suc, ◌+◌, ◌-◌, ◌*◌, ◌<◌, ◌≤◌, List, [], ◌∷◌, length, get_or, take, drop, set, replicate, sum_by, refl, ap, ◌∙◌, ⊎_elim, arith, length-drop, length-set, length-take, get_or-drop, get_or-take, drop-set-lt}
+use Rattle.std.proofs.Common.{◌≡◌, ℕ, zero, suc, ◌+◌, ◌-◌, ◌*◌, ◌<◌, ◌≤◌, List, [], ◌∷◌, length, get_or, take, drop, set, replicate, sum_by, refl, ap, ◌∙◌, ⊎_elim, arith, length-drop, length-set, length-take, get_or-drop, get_or-take, drop-set-lt, None, Some}
 use lib.ListN.{length-replicate}
 use lib.Seq.{take-set-lt, take-set-le, drop-set-add}
 use Rattle.std.proofs.lemmas.List.{take-replicate, drop-replicate}
@@ -8,11 +8,9 @@ use Rattle.std.proofs.lemmas.Bool.{cases_order, eq-eqb, ne_eqb}
 use Rattle.assessment.specs.Days.{Rules}
 use Rattle.assessment.specs.Lines.{no_figures, line_of}
 use Rattle.assessment.specs.Lines as rows
-use Rattle.assessment.specs.declared.day_result.DayFigures.{DayFigures}
-use Rattle.assessment.specs.declared.day_result.DayRow.{DayRow}
-use Rattle.assessment.specs.declared.day_result.DayRow.TheVariants as row
-use Rattle.fund.specs.declared.pool.Pool.{Pool}
-use Rattle.fund.specs.declared.pool.Pool.TheVariants.{Generic, Flexible}
+use Rattle.assessment.specs.Figures.{DayFigures, DayRow}
+use Rattle.pools.specs.declared.pool.Pool.{Pool}
+use Rattle.pools.specs.declared.pool.Pool.TheVariants.{Generic, Flexible}
 use Rattle.settlement.specs.Tables.{places_of}
 use Rattle.settlement.specs.Recording.{place_of}
 use Rattle.settlement.specs.Closing.{line_at}
@@ -44,16 +42,16 @@ window_before xs b p y h = rw drop-set-lt
 window_after : {X : Type 0} (xs : List X) (b k p : ℕ) (y : X) → p ≡ b + k → 31 ≤ k → take 31 (drop b (set xs p y)) ≡ take 31 (drop b xs)
 window_after xs b k p y e h = rw (e, drop-set-add, take-set-le)
 
-sum_empty : (g : DayRow → ℕ) → g row.Empty ≡ 0 → (n : ℕ) → sum_by g (replicate n row.Empty) ≡ 0
+sum_empty : (g : DayRow → ℕ) → g None ≡ 0 → (n : ℕ) → sum_by g (replicate n None) ≡ 0
 sum_empty g z zero = refl
-sum_empty g z (suc n) = omega (arith, sum_by-cons g row.Empty (replicate n row.Empty), sum_empty g z n)
+sum_empty g z (suc n) = omega (arith, sum_by-cons g None (replicate n None), sum_empty g z n)
 
 -- an emptied table, before any record
-pub tallied_none : (r : Rules) (m : MonthRun) (table : List DayRow) → m.records ≡ [] → table ≡ replicate (31 * length m.roster) row.Empty → Tallied r m table
+pub tallied_none : (r : Rules) (m : MonthRun) (table : List DayRow) → m.records ≡ [] → table ≡ replicate (31 * length m.roster) None → Tallied r m table
 tallied_none r m table none e =
     let n = length m.roster in
     record {
-      long = ap length e ∙ length-replicate (31 * n) row.Empty;
+      long = ap length e ∙ length-replicate (31 * n) None;
       agrees = λ f z i lt.
           let room : 31 ≤ 31 * n - 31 * i = omega arith in
           rw (e, none, drop-replicate, take-replicate) (sum_empty (λ x. f (rows.figures_in x)) z 31);
@@ -65,10 +63,10 @@ noting m d = record { terms = m.terms; roster = m.roster; records = d ∷ m.reco
 
 -- a record to a free place
 pub tallied_more : (r : Rules) (m : MonthRun) (table : List DayRow) (d : DayTaken) → d.at.resource < length m.roster → 1 ≤ d.at.day → d.at.day ≤ 31
-    → get_or table (place_of d.at) row.Empty ≡ row.Empty → Tallied r m table → Tallied r (noting m d) (set table (place_of d.at) (row.Recorded (figures_for r m d)))
+    → get_or table (place_of d.at) None ≡ None → Tallied r m table → Tallied r (noting m d) (set table (place_of d.at) (Some (figures_for r m d)))
 tallied_more r m table d known first last free t =
     let p = place_of d.at in
-    let y = row.Recorded (figures_for r m d) in
+    let y = Some (figures_for r m d) in
     let long = t.long in
     record {
       long = rw length-set t.long;
@@ -79,9 +77,9 @@ tallied_more r m table d known first last free t =
           let ih = t.agrees f z i lt in
           ⊎_elim
           (λ e.
-          let none : g (get_or table p row.Empty) ≡ 0 = ap g free ∙ z in
+          let none : g (get_or table p None) ≡ 0 = ap g free ∙ z in
           let here : if_of d i (f (figures_for r m d)) ≡ f (figures_for r m d) = rw (eq-eqb d.at.resource i e) refl in
-          omega (arith, window_set g table b (d.at.day - 1) p y row.Empty (omega arith) (omega arith) (omega arith)))
+          omega (arith, window_set g table b (d.at.day - 1) p y None (omega arith) (omega arith) (omega arith)))
           (⊎_elim
           (λ l.
           let none : if_of d i (f (figures_for r m d)) ≡ 0 = rw (ne_eqb d.at.resource i (omega arith)) refl in

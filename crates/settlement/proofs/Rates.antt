@@ -4,7 +4,8 @@ use native.Mathlib.Nat.{lt-div-mul-add}
 use Rattle.std.proofs.lemmas.List.Sums.{sum_by-cons}
 use Rattle.assessment.specs.declared.line.LineState.{LineState}
 use Rattle.assessment.specs.declared.line.LineState.TheVariants.{Empty, Charged, Neutral, Paid}
-use Rattle.settlement.specs.Closing.{if_paid, if_charged, paid_cents, cents_at, paid_entry, line_tells, told, rate_of, close_rate, paid_entries}
+use Rattle.settlement.specs.Closing.{if_paid, if_charged, paid_cents, paid_entry, line_tells, told, rate_of, close_rate, paid_entries}
+use Rattle.settlement.specs.Prices.{cents_at}
 use Rattle.settlement.specs.Accounts.{begun}
 use Rattle.settlement.specs.declared.amounts.LineAmount.TheVariants.{Charges, Payments, EligibleQuantity}
 use Rattle.settlement.specs.declared.tables.LineEntry.{LineEntry}

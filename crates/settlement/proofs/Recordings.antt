@@ -1,5 +1,5 @@
 -- A taken record, from its tests.
-use Rattle.std.proofs.Common.{◌≡◌, ℕ, ◌≤◌, List, set, Ok, sym, ap, ◌∙◌, subst}
+use Rattle.std.proofs.Common.{◌≡◌, ℕ, ◌≤◌, List, set, Ok, sym, ap, ◌∙◌, subst, Some}
 use Rattle.assessment.specs.Calendar.{days_of}
 use Rattle.assessment.specs.Days.{Rules, day_case, day_figures}
 use Rattle.assessment.specs.Records.{FlexibleAllowed}
@@ -7,9 +7,7 @@ use Rattle.assessment.specs.declared.settings.MonthSettings.{MonthSettings}
 use Rattle.assessment.specs.declared.settings.TradeDay.{TradeDay}
 use Rattle.assessment.specs.declared.submission.DaySubmission.{DaySubmission}
 use Rattle.assessment.specs.declared.day_record.DayRecord.{DayRecord}
-use Rattle.assessment.specs.declared.day_result.DayFigures.{DayFigures}
-use Rattle.assessment.specs.declared.day_result.DayRow.{DayRow}
-use Rattle.assessment.specs.declared.day_result.DayRow.TheVariants.{Recorded}
+use Rattle.assessment.specs.Figures.{DayFigures, DayRow}
 use Rattle.settlement.specs.Recording.{place_of, IsOpen, HasDay, InRoster, IsFree, DayWithin, figures_of, Records}
 use Rattle.settlement.specs.Tables.{category_of, DaysFit}
 use Rattle.settlement.specs.Views.{Phase, open_at}
@@ -31,7 +29,7 @@ day_within d s k is =
 pub record_taken : (r : Rules) (p : Phase) (s : MonthSettings) (price : ℕ) (roster : List RosterEntry) (rows rows' : List DayRow) (at : ResourceDay) (sub : DaySubmission) (f : DayFigures) (row : DayRow) (d : TradeDay) (x : DayRecord)
     → p ≡ open_at s.month price → DaysFit roster rows → InRoster roster at → (d.day ≡ at.day) × (d.settings ≡ s) → IsFree rows at
     → x.submission ≡ sub → x.category.number ≡ category_of roster at.resource
-    → f ≡ day_figures r (day_case d x) → row ≡ Recorded f → rows' ≡ set rows (place_of at) row
+    → f ≡ day_figures r (day_case d x) → row ≡ Some f → rows' ≡ set rows (place_of at) row
     → Records r p roster rows at sub (Ok f) rows'
 record_taken r p s price roster rows rows' at sub f row d x e fit known day free submission category figures stored written =
     let dated = day_within d s at.day day in

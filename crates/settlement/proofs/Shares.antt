@@ -3,8 +3,8 @@ use Rattle.std.proofs.Common.{◌≡◌, ℕ, ◌+◌, ◌*◌, ◌/◌, ◌<◌
 use native.Mathlib.Nat.{mul-div-le, le_of_mul-le-mul_left}
 use Rattle.std.proofs.lemmas.List.Sums.{sum_by-cons}
 use Rattle.fund.specs.Meaning.{FundMeaning}
-use Rattle.fund.specs.declared.pool.Pool.{Pool}
-use Rattle.fund.specs.declared.pool.Pool.TheVariants.{Generic, Flexible}
+use Rattle.pools.specs.declared.pool.Pool.{Pool}
+use Rattle.pools.specs.declared.pool.Pool.TheVariants.{Generic, Flexible}
 use Rattle.settlement.specs.Releasing.{load_tells, load_told, share_of, shared, shares}
 use Rattle.settlement.specs.declared.amounts.LoadAmount.TheVariants.{Load, Share}
 use Rattle.settlement.specs.declared.tables.LoadEntry.{LoadEntry}

@@ -1,10 +1,10 @@
 -- What a release gives the loads, from the book that it stood binding.
 use Rattle.std.proofs.Common.{◌≡◌, ℕ, ◌<◌, ◌≤◌, List, map, sym, ap, ◌∙◌, subst, arith}
 use Rattle.fund.specs.Meaning.{FundMeaning, Lawful, Taken, stands}
-use Rattle.fund.specs.declared.per_pool.PerPool.{PerPool}
-use Rattle.fund.specs.declared.pool.Pool.{Pool}
-use Rattle.fund.specs.declared.pool.Pool.TheVariants.{Generic, Flexible}
-use Rattle.fund.specs.declared.pool.Standing.TheVariants.{Binding}
+use Rattle.pools.specs.declared.per_pool.PerPool.{PerPool}
+use Rattle.pools.specs.declared.pool.Pool.{Pool}
+use Rattle.pools.specs.declared.pool.Pool.TheVariants.{Generic, Flexible}
+use Rattle.fund.specs.declared.standing.Standing.TheVariants.{Binding}
 use Rattle.settlement.specs.Releasing.{load_told, shared, shares, shares_posted, released, LoadsWithin, IsDue, ReleasesAt}
 use Rattle.settlement.specs.Views.{View, Phase, closed, release_due}
 use Rattle.settlement.specs.declared.stage.MonthDate.{MonthDate}

@@ -3,12 +3,12 @@ use Rattle.std.proofs.Common.{◌≡◌, ℕ, zero, suc, ◌+◌, ◌-◌, ◌<�
 use Rattle.fund.specs.Balances.{limit}
 use Rattle.fund.specs.Laws.{with_room}
 use Rattle.fund.specs.Meaning.{FundMeaning, Lawful, Posted, Stood, with_at, binding_after}
-use Rattle.fund.specs.PerPool.{entry_of}
-use Rattle.fund.specs.declared.per_pool.PerPool.{PerPool}
-use Rattle.fund.specs.declared.pool.Pool.{Pool}
-use Rattle.fund.specs.declared.pool.Pool.TheVariants.{Generic, Flexible}
-use Rattle.fund.specs.declared.pool.Standing.{Standing}
-use Rattle.fund.specs.declared.pool.Standing.TheVariants.{Binding, Advisory}
+use Rattle.pools.specs.PerPool.{entry_of}
+use Rattle.pools.specs.declared.per_pool.PerPool.{PerPool}
+use Rattle.pools.specs.declared.pool.Pool.{Pool}
+use Rattle.pools.specs.declared.pool.Pool.TheVariants.{Generic, Flexible}
+use Rattle.fund.specs.declared.standing.Standing.{Standing}
+use Rattle.fund.specs.declared.standing.Standing.TheVariants.{Binding, Advisory}
 use Rattle.settlement.specs.Closing.{posted_in, posted_out, posted, month_posted, Funded}
 use Rattle.settlement.specs.Releasing.{load_told, released}
 use Rattle.settlement.specs.declared.amounts.LoadAmount.TheVariants.{Share}

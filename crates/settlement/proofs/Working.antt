@@ -7,12 +7,10 @@ use Rattle.assessment.proofs.LineLaws.{lines_law}
 use Rattle.assessment.specs.Days.{Rules}
 use Rattle.assessment.specs.Laws.{LineLaw, LinesLaw}
 use Rattle.assessment.specs.declared.trade_month.TradeMonth.{TradeMonth}
-use Rattle.fund.specs.declared.pool.Pool.{Pool}
-use Rattle.fund.specs.declared.pool.Pool.TheVariants.{Generic, Flexible}
+use Rattle.pools.specs.declared.pool.Pool.{Pool}
+use Rattle.pools.specs.declared.pool.Pool.TheVariants.{Generic, Flexible}
 use Rattle.assessment.specs.Lines.{RowWithin, RowsWithin}
-use Rattle.assessment.specs.declared.day_result.DayRow.{DayRow}
-use Rattle.assessment.specs.declared.day_result.DayRow.TheVariants.{Empty}
-use Rattle.assessment.specs.declared.line.MonthLines.{MonthLines}
+use Rattle.assessment.specs.Figures.{DayRow, MonthLines}
 use Rattle.settlement.specs.Closing.{no_line, charged_entry, charged_entries, line_at, QuantitiesWithin}
 use Rattle.settlement.specs.Tables.{category_of, places_of, DaysFit, EachRowWithin}
 use Rattle.settlement.specs.declared.tables.RosterEntry.{RosterEntry}
@@ -22,7 +20,7 @@ use Rattle.settlement.specs.declared.tables.LineEntry.{LineEntry}
 pub places_within : (rows : List DayRow) (n i : ℕ) → length rows ≡ 31 * n → i < n → EachRowWithin rows → RowsWithin (places_of rows i)
 places_within rows n i len lt each =
     let short : length (places_of rows i) ≡ 31 = simp (length-take, length-drop) (omega arith) in
-    (short, λ k h. let at = get_or-take 31 (drop (31 * i) rows) k Empty h ∙ get_or-drop (31 * i) rows k Empty in subst RowWithin (sym at) (each (31 * i + k) (omega arith)))
+    (short, λ k h. let at = get_or-take 31 (drop (31 * i) rows) k None h ∙ get_or-drop (31 * i) rows k None in subst RowWithin (sym at) (each (31 * i + k) (omega arith)))
 
 -- a part of the table by its bounds
 pub part_is : (rows : List DayRow) (i : ℕ) → take (31 * i + 31 - 31 * i) (drop (31 * i) rows) ≡ places_of rows i

@@ -1,11 +1,10 @@
 -- Tables that are written from their front.
-use Rattle.std.proofs.Common.{◌≡◌, ℕ, zero, suc, ◌+◌, ◌-◌, ◌*◌, ◌/◌, ◌%◌, ◌<◌, ◌≤◌, List, ◌++◌, map, length, get_or, take, drop, set, replicate, refl, ap, ◌∙◌, arith, length-set}
+use Rattle.std.proofs.Common.{◌≡◌, ℕ, zero, suc, ◌+◌, ◌-◌, ◌*◌, ◌<◌, ◌≤◌, List, ◌++◌, map, length, get_or, take, drop, set, replicate, refl, ap, ◌∙◌, arith}
 use Rattle.std.proofs.lemmas.List.FromFn.{fill_by_all}
 use Rattle.std.proofs.lemmas.List.Edits.{map_over_more}
 use Rattle.std.proofs.lemmas.List.{get_or-append_right, get_or-drop, get_or_default, length-map, length-take-le, take_all, drop_all, append-nil}
 use Rattle.settlement.specs.Closing.{no_line, line_place, line_table}
 use Rattle.settlement.specs.declared.tables.LineEntry.{LineEntry}
-use Rattle.settlement.proofs.Working.{filled_more}
 
 module _ {X : Type 0} (f : X → X) where
   -- what is not yet written over is as it was
@@ -22,26 +21,8 @@ module _ {X : Type 0} (f : X → X) where
   pub over_all : (xs ys : List X) (i : ℕ) → length xs ≤ i → ys ≡ map f (take i xs) ++ drop i xs → ys ≡ map f xs
   over_all xs ys i h e = e ∙ ap (λ l. map f l ++ drop i xs) (take_all i xs h) ∙ ap (λ l. map f xs ++ l) (drop_all i xs h) ∙ append-nil (map f xs)
 
--- a resource more of the line table
-even_place : (gs fs : List LineEntry) (i : ℕ) → get_or gs i no_line ≡ line_place gs fs (2 * i)
-even_place gs fs i =
-    let even : 2 * i % 2 ≡ 0 = omega arith in
-    let half : 2 * i / 2 ≡ i = omega arith in
-    rw (even, half)
-
-odd_place : (gs fs : List LineEntry) (i : ℕ) → get_or fs i no_line ≡ line_place gs fs (2 * i + 1)
-odd_place gs fs i =
-    let odd : (2 * i + 1) % 2 ≡ 1 = omega arith in
-    let half : (2 * i + 1) / 2 ≡ i = omega arith in
-    rw (odd, half)
-
-pub two_more : (gs fs xs : List LineEntry) (i : ℕ) → 2 * i + 1 < length xs → ((k : ℕ) → k < 2 * i → get_or xs k no_line ≡ line_place gs fs k) → (k : ℕ) → k < 2 * (i + 1) → get_or (set (set xs (2 * i) (get_or gs i no_line)) (2 * i + 1) (get_or fs i no_line)) k no_line ≡ line_place gs fs k
-two_more gs fs xs i lt below k h =
-    let once = filled_more (line_place gs fs) xs (2 * i) (get_or gs i no_line) (omega arith) (even_place gs fs i) below in
-    let long : 2 * i + 1 < length (set xs (2 * i) (get_or gs i no_line)) = omega (arith, length-set xs (2 * i) (get_or gs i no_line)) in
-    filled_more (line_place gs fs) (set xs (2 * i) (get_or gs i no_line)) (2 * i + 1) (get_or fs i no_line) long (odd_place gs fs i) once k (omega arith)
-
-pub table_all : (gs fs xs : List LineEntry) (n i : ℕ) → length xs ≡ 2 * n → n ≤ i → ((k : ℕ) → k < 2 * i → get_or xs k no_line ≡ line_place gs fs k) → xs ≡ line_table gs fs n
+-- the whole line table
+pub table_all : (gs fs xs : List LineEntry) (n i : ℕ) → length xs ≡ 2 * n → 2 * n ≤ i → ((k : ℕ) → k < i → get_or xs k no_line ≡ line_place gs fs k) → xs ≡ line_table gs fs n
 unfolding line_table
 table_all gs fs xs n i len h below = fill_by_all (line_place gs fs) xs (2 * n) no_line len (λ k lt. below k (omega arith))
 

@@ -5,13 +5,13 @@ use Rattle.assessment.specs.Rules.{Rule}
 use Rattle.assessment.specs.Days.{Rules, day_figures}
 use Rattle.assessment.specs.Lines.{line_of, assessed_days}
 use Rattle.assessment.specs.declared.day_result.PoolFigures.{PoolFigures}
-use Rattle.assessment.specs.declared.day_result.DayFigures.{DayFigures}
+use Rattle.assessment.specs.Figures.{DayFigures}
 use Rattle.assessment.specs.declared.line.LineState.TheVariants.{Empty, Charged, Neutral, Paid}
 use Rattle.assessment.specs.declared.line.Line.{Line}
 use Rattle.fund.specs.Meaning.{FundMeaning}
-use Rattle.fund.specs.PerPool.{entry_of}
-use Rattle.fund.specs.declared.pool.Pool.{Pool}
-use Rattle.fund.specs.declared.pool.Pool.TheVariants.{Generic, Flexible}
+use Rattle.pools.specs.PerPool.{entry_of}
+use Rattle.pools.specs.declared.pool.Pool.{Pool}
+use Rattle.pools.specs.declared.pool.Pool.TheVariants.{Generic, Flexible}
 use Rattle.settlement.specs.Tables.{category_of}
 use Rattle.settlement.specs.Views.{View}
 use Rattle.settlement.specs.Closing.{if_paid, told, rate_of, no_line}

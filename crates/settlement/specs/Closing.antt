@@ -4,19 +4,19 @@ use Rattle.std.specs.List.{range_with_len}
 use Rattle.assessment.specs.Days.{Rules}
 use Rattle.assessment.specs.Lines.{lines_of}
 use Rattle.assessment.specs.declared.trade_month.TradeMonth.{TradeMonth}
-use Rattle.assessment.specs.declared.day_result.DayRow.{DayRow}
+use Rattle.assessment.specs.Figures.{DayRow, MonthLines}
 use Rattle.assessment.specs.declared.line.LineState.{LineState}
 use Rattle.assessment.specs.declared.line.LineState.TheVariants.{Empty, Charged, Neutral, Paid}
 use Rattle.assessment.specs.declared.line.Line.{Line}
-use Rattle.assessment.specs.declared.line.MonthLines.{MonthLines}
 use Rattle.fund.specs.Balances.{limit}
 use Rattle.fund.specs.Laws.{with_room}
 use Rattle.fund.specs.Meaning.{FundMeaning}
 use Rattle.fund.specs.declared.fault.BookFault.{BookFault}
 use Rattle.fund.specs.declared.fault.BookFault.TheVariants.{UnfitPlaces, NoFreePlace, OverLimit, AboveBalance, NoAdvisoryMonths}
-use Rattle.fund.specs.declared.per_pool.PerPool.{PerPool}
-use Rattle.fund.specs.declared.pool.Pool.{Pool}
-use Rattle.fund.specs.declared.pool.Pool.TheVariants.{Generic, Flexible}
+use Rattle.pools.specs.declared.per_pool.PerPool.{PerPool}
+use Rattle.pools.specs.declared.pool.Pool.{Pool}
+use Rattle.pools.specs.declared.pool.Pool.TheVariants.{Generic, Flexible}
+use Rattle.settlement.specs.Prices.{cents_at}
 use Rattle.settlement.specs.Tables.{category_of, places_of, AllFit}
 use Rattle.settlement.specs.Views.{View, Phase, fresh, open_at, closed, release_due, date_of, phase_closed}
 use Rattle.settlement.specs.Recording.{IsOpen}
@@ -45,10 +45,6 @@ if_paid Empty n = 0
 if_paid Charged n = 0
 if_paid Neutral n = 0
 if_paid Paid n = n
-
--- the cents for a quantity in watts, at cents per megawatt
-abbrev pub cents_at : ℕ → ℕ → ℕ
-cents_at rate quantity = rate * quantity / 1000000
 
 -- a charged line is charged at the price
 abbrev pub charged_entry : ℕ → Line → LineEntry

@@ -2,7 +2,7 @@
 use Rattle.std.specs.Prelude.{◌≡◌, ℕ, ◌-◌, true, List, [], ◌∷◌, ◌++◌, map}
 use Rattle.assessment.specs.Known.{Known, known, known_figures, agree}
 use Rattle.assessment.specs.declared.line.LineState.TheVariants.{Paid}
-use Rattle.fund.specs.declared.pool.Pool.TheVariants.{Generic}
+use Rattle.pools.specs.declared.pool.Pool.TheVariants.{Generic}
 use Rattle.settlement.specs.Closing.{told, close_rate, paid_entries}
 use Rattle.settlement.specs.Releasing.{load_told, shared}
 use Rattle.settlement.specs.declared.amounts.LineAmount.TheVariants.{Payments}

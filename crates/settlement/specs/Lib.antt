@@ -1,4 +1,5 @@
 pub mod Faults
+pub mod Prices
 pub mod Tables
 pub mod Views
 pub mod Opening

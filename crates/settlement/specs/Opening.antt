@@ -1,13 +1,12 @@
 -- Starting a settlement, and opening a month.
-use Rattle.std.specs.Prelude.{◌≡◌, ℕ, ◌≤◌, cond, List, length, replicate, Ok, Err, Result, ◌==◌}
+use Rattle.std.specs.Prelude.{◌≡◌, ℕ, ◌≤◌, cond, List, length, replicate, Ok, Err, Result, ◌==◌, None}
 use Rattle.assessment.specs.Calendar.{MonthWithin}
 use Rattle.assessment.specs.declared.trade_month.TradeMonth.{TradeMonth}
-use Rattle.assessment.specs.declared.day_result.DayRow.{DayRow}
-use Rattle.assessment.specs.declared.day_result.DayRow.TheVariants.{Empty}
+use Rattle.assessment.specs.Figures.{DayRow}
 use Rattle.fund.specs.Meaning.{FundMeaning, TakesStanding, RefusesStanding}
-use Rattle.fund.specs.declared.pool.Standing.{Standing}
-use Rattle.fund.specs.declared.pool.Standing.TheVariants.{Binding, Advisory}
-use Rattle.fund.specs.declared.pool.Pool.TheVariants.{Generic, Flexible}
+use Rattle.fund.specs.declared.standing.Standing.{Standing}
+use Rattle.fund.specs.declared.standing.Standing.TheVariants.{Binding, Advisory}
+use Rattle.pools.specs.declared.pool.Pool.TheVariants.{Generic, Flexible}
 use Rattle.settlement.specs.Tables.{DaysFit}
 use Rattle.settlement.specs.Views.{View, Phase, fresh, open_at, closed, release_due, next_month, date_of}
 use Rattle.settlement.specs.declared.fault.SettlementFault.{SettlementFault}
@@ -79,5 +78,5 @@ module _ {S : Type 0} (m : FundMeaning S) where
 
   -- what an open answers, and what it leaves: it empties the day table, and a refusal changes nothing
   abbrev pub Opens : View S → MonthTerms → List RosterEntry → List DayRow → Result (Unit {0}) SettlementFault → View S → List DayRow → Type 0
-  Opens v t roster rows (Ok x) w rows' = MayTakeOpen v t roster rows × (w ≡ opened v t) × (rows' ≡ replicate (length rows) Empty)
+  Opens v t roster rows (Ok x) w rows' = MayTakeOpen v t roster rows × (w ≡ opened v t) × (rows' ≡ replicate (length rows) None)
   Opens v t roster rows (Err e) w rows' = RefusesOpen v t roster rows e × (w ≡ v) × (rows' ≡ rows)

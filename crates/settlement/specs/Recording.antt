@@ -1,5 +1,5 @@
 -- Recording a resource's day.
-use Rattle.std.specs.Prelude.{◌≡◌, ℕ, ◌+◌, ◌-◌, ◌*◌, ◌<◌, ◌≤◌, List, length, Ok, Err, Result, slice_index_or, slice_set}
+use Rattle.std.specs.Prelude.{◌≡◌, ℕ, ◌+◌, ◌-◌, ◌*◌, ◌<◌, ◌≤◌, List, length, Ok, Err, Result, slice_index_or, slice_set, None, Some}
 use Rattle.assessment.specs.Calendar.{days_of}
 use Rattle.assessment.specs.Records.{ShowingsWithin, BidsWithin, ExemptionsWithin, FlexibleAllowed}
 use Rattle.assessment.specs.Days.{Rules, day_figures}
@@ -8,9 +8,7 @@ use Rattle.assessment.specs.declared.submission.DaySubmission.{DaySubmission}
 use Rattle.assessment.specs.declared.submission.DayBreach.{DayBreach}
 use Rattle.assessment.specs.declared.submission.DayBreach.TheVariants.{KilowattsOverLimit, ExemptionOverShowing}
 use Rattle.assessment.specs.declared.submission.DayBreach.TheVariants as breach
-use Rattle.assessment.specs.declared.day_result.DayFigures.{DayFigures}
-use Rattle.assessment.specs.declared.day_result.DayRow.{DayRow}
-use Rattle.assessment.specs.declared.day_result.DayRow.TheVariants as row
+use Rattle.assessment.specs.Figures.{DayFigures, DayRow}
 use Rattle.settlement.specs.Tables.{category_of, DaysFit}
 use Rattle.settlement.specs.Views.{Phase, fresh, open_at, closed, release_due}
 use Rattle.settlement.specs.declared.fault.ResourceDay.{ResourceDay}
@@ -42,7 +40,7 @@ InRoster roster at = at.resource < length roster
 
 -- the day's place is empty
 abbrev pub IsFree : List DayRow → ResourceDay → Type 0
-IsFree rows at = slice_index_or rows (place_of at) row.Empty ≡ row.Empty
+IsFree rows at = slice_index_or rows (place_of at) None ≡ None
 
 -- kilowatts within their limit, exemptions within their showings
 abbrev pub DayWithin : DaySubmission → Type 0
@@ -90,5 +88,5 @@ RefusesDay p roster rows at d (Book e) = ⊥
 -- what a record answers, and what it leaves: the day's figures in the day's place
 abbrev pub Records : Rules → Phase → List RosterEntry → List DayRow → ResourceDay → DaySubmission → Result DayFigures SettlementFault → List DayRow → Type 0
 Records r p roster rows at d (Ok f) rows' =
-    MayTakeDay p roster rows at d × (f ≡ figures_of r p roster at d) × (rows' ≡ slice_set rows (place_of at) (row.Recorded f))
+    MayTakeDay p roster rows at d × (f ≡ figures_of r p roster at d) × (rows' ≡ slice_set rows (place_of at) (Some f))
 Records r p roster rows at d (Err e) rows' = RefusesDay p roster rows at d e × (rows' ≡ rows)

@@ -2,8 +2,8 @@
 use Rattle.std.specs.Prelude.{◌≡◌, ℕ, ◌*◌, ◌/◌, ◌<◌, ◌≤◌, List, map, length, Ok, Err, sum_by, Result, slice_index_or}
 use Rattle.fund.specs.Laws.{with_room}
 use Rattle.fund.specs.Meaning.{FundMeaning}
-use Rattle.fund.specs.declared.pool.Pool.TheVariants.{Generic, Flexible}
-use Rattle.fund.specs.declared.pool.Standing.TheVariants.{Binding}
+use Rattle.pools.specs.declared.pool.Pool.TheVariants.{Generic, Flexible}
+use Rattle.fund.specs.declared.standing.Standing.TheVariants.{Binding}
 use Rattle.settlement.specs.Views.{View, Phase, fresh, open_at, closed, release_due}
 use Rattle.settlement.specs.Closing.{posted_out}
 use Rattle.settlement.specs.declared.amounts.LoadAmount.{LoadAmount}

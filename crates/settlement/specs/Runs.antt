@@ -1,29 +1,26 @@
 -- Runs of a settlement from its start, and the history of its taken calls, by what they were handed and returned.
 use Rattle.std.specs.Prelude.{◌≡◌, ℕ, List, [], ◌∷◌, Some, None, Ok, Err, Option, Result}
 use Rattle.assessment.specs.Days.{Rules}
-use Rattle.assessment.specs.declared.submission.DaySubmission.{DaySubmission}
-use Rattle.assessment.specs.declared.day_result.DayFigures.{DayFigures}
-use Rattle.assessment.specs.declared.day_result.DayRow.{DayRow}
+use Rattle.assessment.specs.Figures.{DayFigures, DayRow}
 use Rattle.fund.specs.Meaning.{FundMeaning}
-use Rattle.fund.specs.declared.per_pool.PerPool.{PerPool}
-use Rattle.fund.specs.declared.pool.Pool.{Pool}
+use Rattle.pools.specs.declared.per_pool.PerPool.{PerPool}
+use Rattle.pools.specs.declared.pool.Pool.{Pool}
 use Rattle.settlement.specs.Views.{View}
 use Rattle.settlement.specs.Opening.{started, Opens}
 use Rattle.settlement.specs.Recording.{Records}
 use Rattle.settlement.specs.Closing.{Closes}
 use Rattle.settlement.specs.Releasing.{Releases}
-use Rattle.settlement.specs.declared.fault.ResourceDay.{ResourceDay}
 use Rattle.settlement.specs.declared.fault.SettlementFault.{SettlementFault}
 use Rattle.settlement.specs.declared.tables.RosterEntry.{RosterEntry}
 use Rattle.settlement.specs.declared.tables.MonthTerms.{MonthTerms}
 use Rattle.settlement.specs.declared.tables.LineEntry.{LineEntry}
 use Rattle.settlement.specs.declared.tables.LoadEntry.{LoadEntry}
+use Rattle.settlement.specs.declared.tables.SubmittedDay.{SubmittedDay}
 use Rattle.settlement.specs.declared.tables.PoolClose.{PoolClose}
 
 -- a taken record, as it was handed in
-pub record DayTaken : Type 0 where
-  pub at : ResourceDay
-  pub submission : DaySubmission
+abbrev pub DayTaken : Type 0
+DayTaken = SubmittedDay
 
 -- a month from its taken open on: what the open was handed, and the records taken since, the latest first
 pub record MonthRun : Type 0 where

@@ -1,8 +1,9 @@
 -- The roster and the tables that are handed in with a month's calls.
-use Rattle.std.specs.Prelude.{◌≡◌, ℕ, ◌*◌, ◌<◌, ◌≤◌, List, length, get_or, take, drop, slice_index_or}
+use Rattle.std.specs.Prelude.{◌≡◌, ℕ, ◌*◌, ◌%◌, ◌<◌, ◌≤◌, List, length, get_or, take, drop, slice_index_or, cond, ◌==◌, None}
 use Rattle.assessment.specs.Lines.{RowWithin}
-use Rattle.assessment.specs.declared.day_result.DayRow.{DayRow}
-use Rattle.assessment.specs.declared.day_result.DayRow.TheVariants.{Empty}
+use Rattle.assessment.specs.Figures.{DayRow}
+use Rattle.pools.specs.declared.pool.Pool.{Pool}
+use Rattle.pools.specs.declared.pool.Pool.TheVariants.{Generic, Flexible}
 use Rattle.settlement.specs.declared.tables.RosterEntry.{RosterEntry}
 use Rattle.settlement.specs.declared.tables.LineEntry.{LineEntry}
 
@@ -28,8 +29,12 @@ places_of rows i = take 31 (drop (31 * i) rows)
 
 -- every row is within a day result's limits
 abbrev pub EachRowWithin : List DayRow → Type 0
-EachRowWithin rows = (k : ℕ) → k < length rows → RowWithin (slice_index_or rows k Empty)
+EachRowWithin rows = (k : ℕ) → k < length rows → RowWithin (slice_index_or rows k None)
 
 -- what a close is handed fits: two entries a resource in the line table, and every row within a day result's limits
 abbrev pub AllFit : List RosterEntry → List DayRow → List LineEntry → Type 0
 AllFit roster rows lines = DaysFit roster rows × (length lines ≡ 2 * length roster) × EachRowWithin rows
+
+-- the pool of a place of the line table: two places a resource, generic first
+abbrev pub pool_at : ℕ → Pool
+pool_at place = cond (place % 2 == 0) Generic Flexible

@@ -1,9 +1,7 @@
 -- What a settlement comes to: its opening balances, where it stands among its months, and its book's state.
 use Rattle.std.specs.Prelude.{ℕ, ◌+◌, cond, ◌==◌}
-use Rattle.assessment.specs.Rules.{Rule}
-use Rattle.assessment.specs.Days.{Rules, both}
 use Rattle.assessment.specs.declared.trade_month.TradeMonth.{TradeMonth}
-use Rattle.fund.specs.declared.per_pool.PerPool.{PerPool}
+use Rattle.pools.specs.declared.per_pool.PerPool.{PerPool}
 use Rattle.settlement.specs.declared.stage.Stage.{Stage}
 use Rattle.settlement.specs.declared.stage.Stage.TheVariants.{Fresh, Open, Closed, ReleaseDue}
 use Rattle.settlement.specs.declared.stage.MonthDate.{MonthDate}
@@ -19,7 +17,7 @@ pub data Phase : Type 0 where
 -- a stage of the code, without the limits that its type carries
 abbrev pub phase_of : Stage → Phase
 phase_of Fresh = fresh
-phase_of (Open m) = open_at m.settings.month m.price
+phase_of (Open m) = open_at m.settings.month m.price.cents
 phase_of (Closed d) = closed d
 phase_of (ReleaseDue d) = release_due d
 
@@ -32,10 +30,6 @@ pub record View (S : Type 0) : Type 0 where
 -- the view of a settlement; `state` tells the state of its book
 abbrev pub view : {S B G F : Type 0} → (B → S) → Settlement B G F → View S
 view state s = record { opening = s.opening; phase = phase_of s.stage; book = state s.book }
-
--- the rules of a settlement
-abbrev pub rules_of : {B G F : Type 0} → (G → Rule) → (F → Rule) → Settlement B G F → Rules
-rules_of generic flexible s = both (generic s.generic) (flexible s.flexible)
 
 -- the month after this one
 abbrev pub next_month : MonthDate → MonthDate

@@ -4,17 +4,17 @@ ghost use Rattle.settlement.specs.Releasing.{load_tells};
 
 use crate::tables::{LineEntry, LoadEntry};
 use assessment::line::LineState;
-use fund::pool::Pool;
 use fund::total::TellsAmount;
+use pools::pool::Pool;
 
-#[derive(Clone, Copy)]
+#[derive(Clone, Copy, PartialEq, Eq, Debug)]
 pub enum LineAmount {
     Charges,
     Payments,
     EligibleQuantity,
 }
 
-#[derive(Clone, Copy)]
+#[derive(Clone, Copy, PartialEq, Eq, Debug)]
 pub enum LoadAmount {
     Load,
     Share(Pool),

@@ -3,7 +3,7 @@ ghost use Rattle.std.specs.Prelude.{MatchBool};
 ghost use Rattle.settlement.specs.Tables.{RosterFits, DaysFit, EachRowWithin, AllFit};
 
 use crate::tables::{LineEntry, RosterEntry};
-use assessment::day_result::DayRow;
+use assessment::day_result::{DayResult, DayRow};
 
 pub(crate) const MOST_RESOURCES: usize = 512;
 
@@ -16,15 +16,7 @@ const LINES: usize = 2;
 fn roster_fits(roster: &[RosterEntry]) -> bool
     ensures { MatchBool result (RosterFits roster.now) (RosterFits roster.now → ⊥) }
 {
-    if roster.len() > MOST_RESOURCES {
-        return false;
-    }
-    for entry in roster {
-        if entry.category > MOST_CATEGORY {
-            return false;
-        }
-    }
-    true
+    roster.len() <= MOST_RESOURCES && roster.iter().all(|entry| entry.category <= MOST_CATEGORY)
 }
 
 pub(crate) fn days_fit(roster: &[RosterEntry], rows: &[DayRow]) -> bool
@@ -36,12 +28,7 @@ pub(crate) fn days_fit(roster: &[RosterEntry], rows: &[DayRow]) -> bool
 fn rows_within(rows: &[DayRow]) -> bool
     ensures { MatchBool result (EachRowWithin rows.now) (EachRowWithin rows.now → ⊥) }
 {
-    for row in rows {
-        if row.result().is_none() {
-            return false;
-        }
-    }
-    true
+    rows.iter().all(|row| DayResult::of_row(*row).is_some())
 }
 
 pub(crate) fn all_fit(roster: &[RosterEntry], rows: &[DayRow], lines: &[LineEntry]) -> bool

@@ -1,27 +1,38 @@
 // Closing a month: an assessing part, a paying part, and the postings.
-ghost use Rattle.std.specs.Prelude.{◌≡◌, length, OnErr};
+ghost use Rattle.std.specs.Prelude.{◌≡◌, ◌*◌, length, OnErr};
 ghost use Rattle.settlement.specs.Closing.{LinesClose, Closes};
 ghost use Rattle.settlement.specs.Runs.{CloseGoesOn};
-ghost use Rattle.settlement.specs.Tables.{AllFit};
-ghost use Rattle.settlement.specs.Views.{view, rules_of, phase_of, phase_closed};
+ghost use Rattle.assessment.specs.Pairs.{rules_of};
+ghost use Rattle.settlement.specs.Views.{view, date_of, phase_of, phase_closed};
 
 use crate::checks::{MOST_RESOURCES, all_fit};
 use crate::fault::SettlementFault;
 use crate::pays::{close_pool, write_table};
 use crate::postings::post_month;
 use crate::settlement::Settlement;
-use crate::stage::{MonthDate, OpenMonth, Stage};
+use crate::stage::{MonthDate, Stage};
 use crate::tables::{LineEntry, PoolClose, RosterEntry};
-use crate::workings::work_out;
+use crate::workings::MonthTables;
 use assessment::day_result::DayRow;
 use assessment::rule::AvailabilityRule;
+use assessment::trade_month::TradeMonth;
 use fund::book::FundBook;
-use fund::per_pool::PerPool;
-use fund::pool::Pool;
+use pools::per_pool::PerPool;
+use pools::pool::Pool;
 
 const DECEMBER: u32 = 12;
 
 impl MonthDate {
+    // The calendar month of a trade month.
+    fn of(month: &TradeMonth) -> MonthDate
+        ensures { result ≡ date_of month.now }
+    {
+        MonthDate {
+            year: month.year,
+            month: month.month,
+        }
+    }
+
     // After a December a release is due.
     fn closed(self) -> Stage
         ensures { phase_of result ≡ phase_closed self }
@@ -38,32 +49,22 @@ impl<B: FundBook, G: AvailabilityRule, F: AvailabilityRule> Settlement<B, G, F> 
     // Works out both pools in the space lent, and writes the line table only when both funds are within the limit.
     fn close_lines(
         &self,
-        month: &OpenMonth,
-        roster: &[RosterEntry],
-        rows: &[DayRow],
+        tables: &MonthTables<'_>,
         generic: &mut [LineEntry],
         flexible: &mut [LineEntry],
         lines: &mut [LineEntry],
     ) -> Result<PerPool<PoolClose>, SettlementFault>
-        requires fit { AllFit roster.now rows.now lines.old }
-        requires long { (length generic.old ≡ length roster.now) × (length flexible.old ≡ length roster.now) }
-        ensures { LinesClose B.FundBook.means (rules_of G.AvailabilityRule.means F.AvailabilityRule.means self.now) (B.FundBook.state self.now.book) month.now.settings.month month.now.price roster.now rows.now lines.old result lines.new }
+        requires fit { length lines.old ≡ 2 * length tables.now.roster.now }
+        requires generic_long { length generic.old ≡ length tables.now.roster.now }
+        requires flexible_long { length flexible.old ≡ length tables.now.roster.now }
+        ensures { LinesClose B.means (rules_of G.means F.means self.now.rules) (B.state self.now.book) tables.now.month.now.settings.month tables.now.month.now.price.cents tables.now.roster.now tables.now.rows.now lines.old result lines.new }
     {
-        let Some(()) = work_out(
-            month,
-            roster,
-            rows,
-            &self.generic,
-            &self.flexible,
-            generic,
-            flexible,
-        ) else {
-            return Err(SettlementFault::UnfitTables);
-        };
+        tables.work_out(&self.rules, generic, flexible);
+        let price = tables.month.price;
         let shown = self.book.shown(Pool::Generic);
-        let generic_close = close_pool(generic, Pool::Generic, month.price, shown)?;
+        let generic_close = close_pool(generic, Pool::Generic, price, shown)?;
         let shown = self.book.shown(Pool::Flexible);
-        let flexible_close = close_pool(flexible, Pool::Flexible, month.price, shown)?;
+        let flexible_close = close_pool(flexible, Pool::Flexible, price, shown)?;
         write_table(lines, generic, flexible);
         Ok(PerPool {
             generic: generic_close,
@@ -78,10 +79,10 @@ impl<B: FundBook, G: AvailabilityRule, F: AvailabilityRule> Settlement<B, G, F> 
         rows: &[DayRow],
         lines: &mut [LineEntry],
     ) -> Result<PerPool<PoolClose>, SettlementFault>
-        ensures does { Closes B.FundBook.means (rules_of G.AvailabilityRule.means F.AvailabilityRule.means self.old) (view B.FundBook.state self.old) roster.now rows.now lines.old result (view B.FundBook.state self.new) lines.new }
+        ensures does { Closes B.means (rules_of G.means F.means self.old.rules) (view B.state self.old) roster.now rows.now lines.old result (view B.state self.new) lines.new }
         ensures same { OnErr result (self.new ≡ self.old) }
-        ensures rules { (self.new.generic ≡ self.old.generic) × (self.new.flexible ≡ self.old.flexible) }
-        ensures runs { CloseGoesOn B.FundBook.means B.FundBook.sound (rules_of G.AvailabilityRule.means F.AvailabilityRule.means self.old) (view B.FundBook.state self.old) roster.now rows.now result (rules_of G.AvailabilityRule.means F.AvailabilityRule.means self.new) (view B.FundBook.state self.new) lines.new }
+        ensures rules { self.new.rules ≡ self.old.rules }
+        ensures runs { CloseGoesOn B.means B.sound (rules_of G.means F.means self.old.rules) (view B.state self.old) roster.now rows.now result (rules_of G.means F.means self.new.rules) (view B.state self.new) lines.new }
     {
         if !all_fit(roster, rows, lines) {
             return Err(SettlementFault::UnfitTables);
@@ -92,20 +93,19 @@ impl<B: FundBook, G: AvailabilityRule, F: AvailabilityRule> Settlement<B, G, F> 
         let resources = roster.len();
         let mut generic = [LineEntry::EMPTY; MOST_RESOURCES];
         let mut flexible = [LineEntry::EMPTY; MOST_RESOURCES];
-        let pools = self.close_lines(
-            &month,
+        let tables = MonthTables {
+            month: &month,
             roster,
             rows,
+        };
+        let pools = self.close_lines(
+            &tables,
             &mut generic[0..resources],
             &mut flexible[0..resources],
             lines,
         )?;
         post_month(&mut self.book, pools)?;
-        self.stage = MonthDate {
-            year: month.settings.month.year,
-            month: month.settings.month.month,
-        }
-        .closed();
+        self.stage = MonthDate::of(&month.settings.month).closed();
         Ok(pools)
     }
 }

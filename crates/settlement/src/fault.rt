@@ -3,16 +3,16 @@ ghost use Rattle.std.specs.Prelude.{◌≡◌};
 ghost use Rattle.settlement.specs.declared.fault.SettlementFault.TheVariants.{Book};
 
 use fund::fault::BookFault;
-use fund::pool::Pool;
+use pools::pool::Pool;
 
 // A resource's day, by number.
-#[derive(Clone, Copy)]
+#[derive(Clone, Copy, PartialEq, Eq, Debug)]
 pub struct ResourceDay {
     pub resource: u32,
     pub day: u32,
 }
 
-#[derive(Clone, Copy)]
+#[derive(Clone, Copy, PartialEq, Eq, Debug)]
 pub enum SettlementFault {
     UnfitTables,
     OutOfTurn,
@@ -27,20 +27,11 @@ pub enum SettlementFault {
     Book(BookFault),
 }
 
-// What a fault is about.
-#[derive(Clone, Copy)]
+// What a fault is about: a pool, or a resource's day.
+#[derive(Clone, Copy, PartialEq, Eq, Debug)]
 pub enum FaultPlace {
-    Nowhere,
-    InPool(Pool),
-    OnDay(ResourceDay),
-}
-
-// What a refusal prints of a fault: its number, the letter of its layer, and its place.
-#[derive(Clone, Copy)]
-pub struct FaultLabel {
-    pub number: u8,
-    pub layer: char,
-    pub place: FaultPlace,
+    Pool(Pool),
+    Day(ResourceDay),
 }
 
 impl From<BookFault> for SettlementFault {

@@ -3,11 +3,12 @@ ghost use Rattle.std.specs.Prelude.{◌≡◌};
 ghost use Rattle.settlement.specs.Known.{AllKnownFiguresAgree};
 
 use crate::pays::rate_for;
+use crate::price::Price;
 
 // The rate for three eligible lines of 300,000 W over a fund of 1,000 cents. The contract also holds the table of known figures.
 pub fn rate_for_three_lines() -> u64
     ensures figures { AllKnownFiguresAgree }
     ensures is { result ≡ 1111 }
 {
-    rate_for(379_000, 1_000, 900_000)
+    rate_for(Price { cents: 379_000 }, 1_000, 900_000).cents
 }

@@ -11,6 +11,7 @@ pub mod lookups;
 mod opens;
 mod pays;
 mod postings;
+pub mod price;
 mod records;
 mod releases;
 pub mod settlement;

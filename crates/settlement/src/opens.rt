@@ -2,22 +2,24 @@
 ghost use Rattle.std.specs.Prelude.{◌≡◌, length, replicate, MatchBool, MatchOption, OnErr, ◌≢◌};
 ghost use Rattle.settlement.specs.Opening.{started, MayOpen, Follows, TermsWithin, standing_of, Opens};
 ghost use Rattle.settlement.specs.Runs.{Run, no_history, OpenGoesOn};
-ghost use Rattle.settlement.specs.Views.{view, rules_of, phase_of, date_of, next_month};
+ghost use Rattle.assessment.specs.Pairs.{rules_of};
+ghost use Rattle.settlement.specs.Views.{view, phase_of, date_of, next_month};
 
 use crate::checks::days_fit;
 use crate::fault::SettlementFault;
+use crate::price::Price;
 use crate::settlement::Settlement;
 use crate::stage::{MonthDate, OpenMonth, Stage};
 use crate::tables::{MonthTerms, RosterEntry};
 use assessment::day_result::DayRow;
 use assessment::rule::AvailabilityRule;
+use assessment::rule_pair::RulePair;
 use assessment::settings::MonthSettings;
 use assessment::trade_month::TradeMonth;
 use fund::book::FundBook;
-use fund::per_pool::PerPool;
-use fund::pool::{Pool, Standing};
-
-const MOST_PRICE: u32 = 500_000;
+use fund::standing::Standing;
+use pools::per_pool::PerPool;
+use pools::pool::Pool;
 
 impl MonthDate {
     // Widened, so that no date is too late to have a next month.
@@ -25,11 +27,11 @@ impl MonthDate {
         ensures { MatchBool result (date_of month.now ≡ next_month self.now) (date_of month.now ≢ next_month self.now) }
     {
         let (year, following) = if self.month == 12 {
-            (self.year as u64 + 1, 1)
+            (u64::from(self.year) + 1, 1)
         } else {
-            (self.year as u64, self.month as u64 + 1)
+            (u64::from(self.year), u64::from(self.month) + 1)
         };
-        month.year as u64 == year && month.month as u64 == following
+        u64::from(month.year) == year && u64::from(month.month) == following
     }
 }
 
@@ -55,53 +57,43 @@ impl Stage {
     }
 }
 
-fn open_month(terms: &MonthTerms) -> Option<OpenMonth>
-    ensures { MatchOption result (TermsWithin terms.now → ⊥) (λ o. TermsWithin terms.now × (o.settings.month ≡ terms.now.month) × (o.price ≡ terms.now.price)) }
+// What a month is opened with, within its limits.
+#[derive(Clone, Copy)]
+struct FitTerms {
+    month: OpenMonth,
+    standing: Standing,
+}
+
+fn fit_terms(terms: &MonthTerms) -> Option<FitTerms>
+    ensures { MatchOption result (TermsWithin terms.now → ⊥) (λ o. TermsWithin terms.now × (o.month.settings.month ≡ terms.now.month) × (o.month.price.cents ≡ terms.now.price) × (o.standing ≡ standing_of terms.now.standing)) }
 {
     let settings = MonthSettings::new(terms.month)?;
-    if terms.price > MOST_PRICE || terms.standing > 1 {
-        return None;
-    }
-    Some(OpenMonth {
-        settings,
-        price: terms.price,
+    let price = Price::try_from(terms.price).ok()?;
+    let standing = Standing::try_from(terms.standing).ok()?;
+    Some(FitTerms {
+        month: OpenMonth { settings, price },
+        standing,
     })
 }
 
 fn empty_days(rows: &mut [DayRow])
-    ensures { rows.new ≡ replicate (length rows.old) DayRow.Empty }
+    ensures { rows.new ≡ replicate (length rows.old) None }
 {
-    for row in rows.iter_mut() {
-        *row = DayRow::Empty;
-    }
-}
-
-fn standing_of(standing: u32) -> Standing
-    ensures { result ≡ standing_of standing }
-{
-    if standing == 0 {
-        Standing::Binding
-    } else {
-        Standing::Advisory
-    }
+    rows.fill(None);
 }
 
 impl<B: FundBook, G: AvailabilityRule, F: AvailabilityRule> Settlement<B, G, F> {
     // A settlement over the book, which it stands binding, and the two rules.
-    pub fn start(mut book: B, generic: G, flexible: F) -> Settlement<B, G, F>
-        ensures is { view B.FundBook.state result ≡ started B.FundBook.means (B.FundBook.state book) }
-        ensures rules { (result.generic ≡ generic) × (result.flexible ≡ flexible) }
-        ensures runs { Run B.FundBook.means B.FundBook.sound (rules_of G.AvailabilityRule.means F.AvailabilityRule.means result) (no_history (B.FundBook.means.binding (B.FundBook.state book))) (view B.FundBook.state result) }
+    pub fn start(mut book: B, rules: RulePair<G, F>) -> Settlement<B, G, F>
+        ensures is { view B.state result ≡ started B.means (B.state book) }
+        ensures rules { result.rules ≡ rules }
+        ensures runs { Run B.means B.sound (rules_of G.means F.means result.rules) (no_history (B.means.binding (B.state book))) (view B.state result) }
     {
         let _ = book.stand(Standing::Binding);
-        let opening = PerPool {
-            generic: book.binding(Pool::Generic),
-            flexible: book.binding(Pool::Flexible),
-        };
+        let opening = PerPool::of(|pool| book.binding(pool));
         Settlement {
             book,
-            generic,
-            flexible,
+            rules,
             opening,
             stage: Stage::Fresh,
         }
@@ -114,10 +106,10 @@ impl<B: FundBook, G: AvailabilityRule, F: AvailabilityRule> Settlement<B, G, F> 
         roster: &[RosterEntry],
         rows: &mut [DayRow],
     ) -> Result<(), SettlementFault>
-        ensures does { Opens B.FundBook.means (view B.FundBook.state self.old) terms.now roster.now rows.old result (view B.FundBook.state self.new) rows.new }
+        ensures does { Opens B.means (view B.state self.old) terms.now roster.now rows.old result (view B.state self.new) rows.new }
         ensures same { OnErr result (self.new ≡ self.old) }
-        ensures rules { (self.new.generic ≡ self.old.generic) × (self.new.flexible ≡ self.old.flexible) }
-        ensures runs { OpenGoesOn B.FundBook.means B.FundBook.sound (rules_of G.AvailabilityRule.means F.AvailabilityRule.means self.old) (view B.FundBook.state self.old) terms.now roster.now result (rules_of G.AvailabilityRule.means F.AvailabilityRule.means self.new) (view B.FundBook.state self.new) rows.new }
+        ensures rules { self.new.rules ≡ self.old.rules }
+        ensures runs { OpenGoesOn B.means B.sound (rules_of G.means F.means self.old.rules) (view B.state self.old) terms.now roster.now result (rules_of G.means F.means self.new.rules) (view B.state self.new) rows.new }
     {
         if !days_fit(roster, rows) {
             return Err(SettlementFault::UnfitTables);
@@ -125,13 +117,13 @@ impl<B: FundBook, G: AvailabilityRule, F: AvailabilityRule> Settlement<B, G, F> 
         if !self.stage.may_open() {
             return Err(SettlementFault::OutOfTurn);
         }
-        let Some(month) = open_month(terms) else {
+        let Some(FitTerms { month, standing }) = fit_terms(terms) else {
             return Err(SettlementFault::UnfitTerms);
         };
         if !self.stage.admits(&terms.month) {
             return Err(SettlementFault::NotNextMonth);
         }
-        self.book.stand(standing_of(terms.standing))?;
+        self.book.stand(standing)?;
         self.stage = Stage::Open(month);
         empty_days(rows);
         Ok(())

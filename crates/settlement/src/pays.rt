@@ -1,30 +1,32 @@
 // The paying part of a close: one rate for each pool, and each eligible line's payment at it.
 ghost use Rattle.std.specs.Prelude.{◌≡◌, ℕ, ◌+◌, ◌*◌, ◌<◌, ◌≤◌, map, length, slice_index, slice_index_or};
 ghost use Rattle.fund.specs.Balances.{limit};
-ghost use Rattle.settlement.specs.Closing.{line_tells, rate_of, paid_entry, no_line, line_table, QuantitiesWithin, ClosesPool};
+ghost use Rattle.settlement.specs.Closing.{line_tells, rate_of, paid_entry, no_line, line_place, line_table, QuantitiesWithin, ClosesPool};
 ghost use Rattle.settlement.specs.declared.amounts.LineAmount.TheVariants.{EligibleQuantity};
 
 use crate::amounts::LineAmount;
 use crate::checks::MOST_RESOURCES;
-use crate::tables::{LineEntry, PoolClose};
-use crate::workings::cents_at;
+use crate::price::{Price, Rate};
+use crate::tables::{LineEntry, PoolClose, pool_at};
 use assessment::line::LineState;
 use fund::book::LIMIT;
 use fund::fault::BookFault;
-use fund::pool::Pool;
 use fund::total::{TellsAmount, total};
+use pools::pool::Pool;
 
 // The rate that eligible lines are paid, in cents for a megawatt and month.
-pub(crate) fn rate_for(price: u32, fund: u64, quantity: u128) -> u64
-    requires { (price ≤ 500000) × (fund ≤ limit) }
-    ensures is { result ≡ rate_of price fund quantity }
-    ensures capped { result ≤ 1500000 }
+pub(crate) fn rate_for(price: Price, fund: u64, quantity: u128) -> Rate
+    requires { fund ≤ limit }
+    ensures { result.cents ≡ rate_of price.cents fund quantity }
 {
     if quantity == 0 {
-        return 0;
+        return Rate { cents: 0 };
     }
-    let triple = 3 * price as u128;
-    triple.min(fund as u128 * 1_000_000 / quantity) as u64
+    let triple = 3 * u128::from(price.cents);
+    let all_of_it = u128::from(fund) * 1_000_000 / quantity;
+    Rate {
+        cents: triple.min(all_of_it) as u64,
+    }
 }
 
 // The eligible quantity of each line, 0 where it is not eligible.
@@ -40,12 +42,13 @@ fn eligible_quantities(entries: &[LineEntry]) -> [u64; MOST_RESOURCES]
     quantities
 }
 
-fn paid(entry: LineEntry, rate: u64, quantity: u64) -> LineEntry
-    requires { (rate ≤ 1500000) × ((entry.line.quantity ≤ 58590000000) × (quantity ≡ line_tells EligibleQuantity entry)) }
-    ensures { result ≡ paid_entry rate entry }
+fn paid(entry: LineEntry, rate: Rate, quantity: u64) -> LineEntry
+    requires small { entry.line.quantity ≤ 58590000000 }
+    requires eligible { quantity ≡ line_tells EligibleQuantity entry }
+    ensures { result ≡ paid_entry rate.cents entry }
 {
     let cents = match entry.line.state {
-        LineState::Paid => cents_at(rate, quantity),
+        LineState::Paid => rate.cents_for(quantity),
         LineState::Empty | LineState::Charged | LineState::Neutral => entry.cents,
     };
     LineEntry {
@@ -55,9 +58,10 @@ fn paid(entry: LineEntry, rate: u64, quantity: u64) -> LineEntry
 }
 
 // Pays every eligible line at the rate, from a table of the eligible quantities.
-fn pay(entries: &mut [LineEntry], rate: u64)
-    requires { (length entries.old ≤ 512) × ((rate ≤ 1500000) × (QuantitiesWithin entries.old)) }
-    ensures { entries.new ≡ map (paid_entry rate) entries.old }
+fn pay(entries: &mut [LineEntry], rate: Rate)
+    requires short { length entries.old ≤ 512 }
+    requires small { QuantitiesWithin entries.old }
+    ensures { entries.new ≡ map (paid_entry rate.cents) entries.old }
 {
     let quantities = eligible_quantities(entries);
     for (i, entry) in entries.iter_mut().enumerate() {
@@ -69,11 +73,13 @@ fn pay(entries: &mut [LineEntry], rate: u64)
 pub(crate) fn close_pool(
     entries: &mut [LineEntry],
     pool: Pool,
-    price: u32,
+    price: Price,
     shown: u64,
 ) -> Result<PoolClose, BookFault>
-    requires { (length entries.old ≤ 512) × ((QuantitiesWithin entries.old) × ((price ≤ 500000) × (shown ≤ limit))) }
-    ensures { ClosesPool price shown pool entries.old result entries.new }
+    requires short { length entries.old ≤ 512 }
+    requires small { QuantitiesWithin entries.old }
+    requires within { shown ≤ limit }
+    ensures { ClosesPool price.cents shown pool entries.old result entries.new }
 {
     let charges = total(entries, LineAmount::Charges);
     if charges > u128::from(LIMIT - shown) {
@@ -86,18 +92,30 @@ pub(crate) fn close_pool(
     let payments = total(entries, LineAmount::Payments) as u64;
     Ok(PoolClose {
         charges,
-        rate,
+        rate: rate.cents,
         payments,
     })
 }
 
+// The line that belongs in a place of the line table.
+fn line_for(place: usize, generic: &[LineEntry], flexible: &[LineEntry]) -> LineEntry
+    requires there { place < 2 * length generic.now }
+    requires alike { length flexible.now ≡ length generic.now }
+    ensures { result ≡ line_place generic.now flexible.now place }
+{
+    match pool_at(place) {
+        Pool::Generic => generic[place / 2],
+        Pool::Flexible => flexible[place / 2],
+    }
+}
+
 // Two entries a resource, generic first.
 pub(crate) fn write_table(lines: &mut [LineEntry], generic: &[LineEntry], flexible: &[LineEntry])
-    requires { (length lines.old ≡ 2 * length generic.now) × (length flexible.now ≡ length generic.now) }
+    requires two_each { length lines.old ≡ 2 * length generic.now }
+    requires alike { length flexible.now ≡ length generic.now }
     ensures { lines.new ≡ line_table generic.now flexible.now (length generic.now) }
 {
-    for i in 0..generic.len() {
-        lines[2 * i] = generic[i];
-        lines[2 * i + 1] = flexible[i];
+    for (place, entry) in lines.iter_mut().enumerate() {
+        *entry = line_for(place, generic, flexible);
     }
 }

@@ -1,8 +1,8 @@
 // The postings of a close and of a release. Their tests have passed, so no book refuses them.
 ghost use Rattle.std.specs.Prelude.{◌≡◌, ◌+◌, ◌<◌, ◌≤◌, MatchResult};
 ghost use Rattle.fund.specs.Balances.{limit};
-ghost use Rattle.fund.specs.declared.pool.Pool.{Pool};
-ghost use Rattle.fund.specs.declared.pool.Pool.TheVariants.{Generic, Flexible};
+ghost use Rattle.pools.specs.declared.pool.Pool.{Pool};
+ghost use Rattle.pools.specs.declared.pool.Pool.TheVariants.{Generic, Flexible};
 ghost use Rattle.settlement.specs.Releasing.{load_told, shares_posted};
 ghost use Rattle.settlement.specs.declared.amounts.LoadAmount.TheVariants.{Share};
 ghost use Rattle.settlement.specs.Closing.{posted_in, posted_out, posted, month_posted, Funded};
@@ -12,9 +12,9 @@ use crate::tables::{LoadEntry, PoolClose};
 use fund::book::FundBook;
 use fund::every_book::make_room;
 use fund::fault::BookFault;
-use fund::per_pool::PerPool;
-use fund::pool::Pool;
 use fund::total::total;
+use pools::per_pool::PerPool;
+use pools::pool::Pool;
 
 const CLOSE_POSTINGS: usize = 4;
 

@@ -2,19 +2,19 @@
 ghost use Rattle.std.specs.Prelude.{◌≡◌};
 ghost use Rattle.settlement.specs.Recording.{fault_for, Records};
 ghost use Rattle.settlement.specs.Runs.{RecordGoesOn};
-ghost use Rattle.settlement.specs.Views.{view, phase_of, rules_of};
+ghost use Rattle.assessment.specs.Pairs.{rules_of};
+ghost use Rattle.settlement.specs.Views.{view, phase_of};
 
 use crate::checks::days_fit;
 use crate::fault::{ResourceDay, SettlementFault};
 use crate::settlement::Settlement;
 use crate::stage::Stage;
-use crate::tables::RosterEntry;
+use crate::tables::{RosterEntry, SubmittedDay};
 use assessment::category::Category;
-use assessment::day::assess_day;
 use assessment::day_record::DayRecord;
 use assessment::day_result::{DayFigures, DayRow};
 use assessment::rule::AvailabilityRule;
-use assessment::submission::{DayBreach, DaySubmission};
+use assessment::submission::DayBreach;
 use fund::book::FundBook;
 
 fn breach_fault(breach: DayBreach, at: ResourceDay) -> SettlementFault
@@ -34,11 +34,10 @@ impl<B: FundBook, G: AvailabilityRule, F: AvailabilityRule> Settlement<B, G, F> 
         &self,
         roster: &[RosterEntry],
         rows: &mut [DayRow],
-        at: ResourceDay,
-        submission: &DaySubmission,
+        day: &SubmittedDay,
     ) -> Result<DayFigures, SettlementFault>
-        ensures does { Records (rules_of G.AvailabilityRule.means F.AvailabilityRule.means self.now) (phase_of self.now.stage) roster.now rows.old at submission.now result rows.new }
-        ensures runs { RecordGoesOn B.FundBook.means B.FundBook.sound (rules_of G.AvailabilityRule.means F.AvailabilityRule.means self.now) (view B.FundBook.state self.now) roster.now rows.old (record { at = at; submission = submission.now }) result rows.new }
+        ensures does { Records (rules_of G.means F.means self.now.rules) (phase_of self.now.stage) roster.now rows.old day.now.at day.now.submission result rows.new }
+        ensures runs { RecordGoesOn B.means B.sound (rules_of G.means F.means self.now.rules) (view B.state self.now) roster.now rows.old day.now result rows.new }
     {
         if !days_fit(roster, rows) {
             return Err(SettlementFault::UnfitTables);
@@ -46,24 +45,23 @@ impl<B: FundBook, G: AvailabilityRule, F: AvailabilityRule> Settlement<B, G, F> 
         let Stage::Open(month) = self.stage else {
             return Err(SettlementFault::OutOfTurn);
         };
-        if at.resource as usize >= roster.len() {
-            return Err(SettlementFault::UnknownResource(at));
+        let resource = day.at.resource as usize;
+        if resource >= roster.len() {
+            return Err(SettlementFault::UnknownResource(day.at));
         }
-        let Some(day) = month.settings.day(at.day) else {
-            return Err(SettlementFault::NoSuchDay(at));
+        let Some(trade_day) = month.settings.day(day.at.day) else {
+            return Err(SettlementFault::NoSuchDay(day.at));
         };
-        let place = 31 * at.resource as usize + (at.day - 1) as usize;
-        let DayRow::Empty = rows[place] else {
-            return Err(SettlementFault::AlreadyRecorded(at));
+        let place = 31 * resource + (day.at.day - 1) as usize;
+        let None = rows[place] else {
+            return Err(SettlementFault::AlreadyRecorded(day.at));
         };
-        let Some(category) = Category::new(roster[at.resource as usize].category) else {
-            return Err(SettlementFault::UnfitTables);
-        };
-        let submitted = match DayRecord::new(category, submission) {
+        let category = Category::try_from(roster[resource].category).unwrap();
+        let submitted = match DayRecord::new(category, &day.submission) {
             Ok(submitted) => submitted,
-            Err(breach) => return Err(breach_fault(breach, at)),
+            Err(breach) => return Err(breach_fault(breach, day.at)),
         };
-        let result = assess_day(&day, &submitted, &self.generic, &self.flexible);
+        let result = self.rules.assess_day(&trade_day, &submitted);
         rows[place] = result.row();
         Ok(result.figures)
     }

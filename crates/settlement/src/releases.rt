@@ -1,9 +1,11 @@
 // Releasing the fund to the loads after a December.
 ghost use Rattle.std.specs.Prelude.{◌≡◌, ◌*◌, ◌<◌, ◌≤◌, map, MatchBool, MatchOption, OnErr};
 ghost use Rattle.fund.specs.Balances.{limit};
+ghost use Rattle.pools.specs.PerPool.{entry_of};
 ghost use Rattle.settlement.specs.Releasing.{EachLoadWithin, LoadsWithin, share_of, shared, Releases, load_told};
 ghost use Rattle.settlement.specs.Runs.{ReleaseGoesOn};
-ghost use Rattle.settlement.specs.Views.{view, rules_of};
+ghost use Rattle.assessment.specs.Pairs.{rules_of};
+ghost use Rattle.settlement.specs.Views.{view};
 ghost use Rattle.settlement.specs.declared.amounts.LoadAmount.TheVariants.{Load};
 
 use crate::amounts::LoadAmount;
@@ -14,8 +16,10 @@ use crate::stage::Stage;
 use crate::tables::LoadEntry;
 use assessment::rule::AvailabilityRule;
 use fund::book::FundBook;
-use fund::pool::{Pool, Standing};
+use fund::standing::Standing;
 use fund::total::total;
+use pools::per_pool::PerPool;
+use pools::pool::Pool;
 
 const MOST_LOADS: usize = 64;
 
@@ -24,12 +28,7 @@ const MOST_GIGAWATT_HOURS: u64 = 1_000_000;
 fn each_load_within(loads: &[LoadEntry]) -> bool
     ensures { MatchBool result (EachLoadWithin loads.now) (EachLoadWithin loads.now → ⊥) }
 {
-    for entry in loads {
-        if entry.load > MOST_GIGAWATT_HOURS {
-            return false;
-        }
-    }
-    true
+    loads.iter().all(|entry| entry.load <= MOST_GIGAWATT_HOURS)
 }
 
 // The total load of entries within their limits; None where a limit is broken.
@@ -45,42 +44,54 @@ fn total_load(loads: &[LoadEntry]) -> Option<u128>
     }
 }
 
-// A load's part of a balance, in whole cents.
-fn share(balance: u64, total: u128, load: u64) -> u64
-    requires { (balance ≤ limit) × ((load ≤ 1000000) × (0 < total)) }
-    ensures { result ≡ share_of balance total load }
-{
-    (u128::from(balance * load) / total) as u64
+// What is released: both balances, shared out over a total load.
+#[derive(Clone, Copy)]
+struct Release {
+    balances: PerPool<u64>,
+    load: u128,
+    ghost generic_within: { balances.generic ≤ limit },
+    ghost flexible_within: { balances.flexible ≤ limit },
+    ghost loaded: { 0 < load },
 }
 
-fn with_shares(entry: LoadEntry, generic: u64, flexible: u64, total: u128) -> LoadEntry
-    requires { (generic ≤ limit) × ((flexible ≤ limit) × ((0 < total) × (entry.load ≤ 1000000))) }
-    ensures { result ≡ shared generic flexible total entry }
-{
-    LoadEntry {
-        load: entry.load,
-        generic: share(generic, total, entry.load),
-        flexible: share(flexible, total, entry.load),
+impl Release {
+    // A load's part of a pool's balance, in whole cents.
+    fn share(&self, pool: Pool, load: u64) -> u64
+        requires { load ≤ 1000000 }
+        ensures { result ≡ share_of (entry_of self.now.balances pool) self.now.load load }
+    {
+        (u128::from(self.balances.get(pool) * load) / self.load) as u64
     }
-}
 
-// Writes each entry's share of both balances.
-fn share_out(loads: &mut [LoadEntry], generic: u64, flexible: u64, total: u128)
-    requires { (generic ≤ limit) × ((flexible ≤ limit) × ((0 < total) × (EachLoadWithin loads.old))) }
-    ensures { loads.new ≡ map (shared generic flexible total) loads.old }
-{
-    for i in 0..loads.len() {
-        loads[i] = with_shares(loads[i], generic, flexible, total);
+    fn with_shares(&self, entry: LoadEntry) -> LoadEntry
+        requires { entry.load ≤ 1000000 }
+        ensures { result ≡ shared self.now.balances.generic self.now.balances.flexible self.now.load entry }
+    {
+        LoadEntry {
+            load: entry.load,
+            generic: self.share(Pool::Generic, entry.load),
+            flexible: self.share(Pool::Flexible, entry.load),
+        }
+    }
+
+    // Writes each entry's share of both balances.
+    fn share_out(&self, loads: &mut [LoadEntry])
+        requires { EachLoadWithin loads.old }
+        ensures { loads.new ≡ map (shared self.now.balances.generic self.now.balances.flexible self.now.load) loads.old }
+    {
+        for i in 0..loads.len() {
+            loads[i] = self.with_shares(loads[i]);
+        }
     }
 }
 
 impl<B: FundBook, G: AvailabilityRule, F: AvailabilityRule> Settlement<B, G, F> {
     // Gives each load its share of both binding balances; the remainder stays in the fund.
     pub fn release(&mut self, loads: &mut [LoadEntry]) -> Result<(), SettlementFault>
-        ensures does { Releases B.FundBook.means (view B.FundBook.state self.old) loads.old result (view B.FundBook.state self.new) loads.new }
+        ensures does { Releases B.means (view B.state self.old) loads.old result (view B.state self.new) loads.new }
         ensures same { OnErr result (self.new ≡ self.old) }
-        ensures rules { (self.new.generic ≡ self.old.generic) × (self.new.flexible ≡ self.old.flexible) }
-        ensures runs { ReleaseGoesOn B.FundBook.means B.FundBook.sound (rules_of G.AvailabilityRule.means F.AvailabilityRule.means self.old) (view B.FundBook.state self.old) result (rules_of G.AvailabilityRule.means F.AvailabilityRule.means self.new) (view B.FundBook.state self.new) loads.new }
+        ensures rules { self.new.rules ≡ self.old.rules }
+        ensures runs { ReleaseGoesOn B.means B.sound (rules_of G.means F.means self.old.rules) (view B.state self.old) result (rules_of G.means F.means self.new.rules) (view B.state self.new) loads.new }
     {
         let Stage::ReleaseDue(december) = self.stage else {
             return Err(SettlementFault::OutOfTurn);
@@ -89,9 +100,8 @@ impl<B: FundBook, G: AvailabilityRule, F: AvailabilityRule> Settlement<B, G, F> 
             return Err(SettlementFault::UnfitLoads);
         };
         self.book.stand(Standing::Binding)?;
-        let generic = self.book.binding(Pool::Generic);
-        let flexible = self.book.binding(Pool::Flexible);
-        share_out(loads, generic, flexible, load);
+        let balances = PerPool::of(|pool| self.book.binding(pool));
+        Release { balances, load }.share_out(loads);
         post_release(&mut self.book, loads)?;
         self.stage = Stage::Closed(december);
         Ok(())

@@ -1,14 +1,14 @@
 // A settlement: a fund book, two availability rules, and where it stands among its months.
 use crate::stage::Stage;
 use assessment::rule::AvailabilityRule;
+use assessment::rule_pair::RulePair;
 use fund::book::FundBook;
-use fund::per_pool::PerPool;
+use pools::per_pool::PerPool;
 
 #[derive(Drop)]
 pub struct Settlement<B: FundBook, G: AvailabilityRule, F: AvailabilityRule> {
     pub(crate) book: B,
-    pub(crate) generic: G,
-    pub(crate) flexible: F,
+    pub(crate) rules: RulePair<G, F>,
     pub(crate) opening: PerPool<u64>,
     pub(crate) stage: Stage,
 }

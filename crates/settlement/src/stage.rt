@@ -1,18 +1,16 @@
 // Where a settlement stands among its months.
-ghost use Rattle.std.specs.Prelude.{◌≤◌};
-
+use crate::price::Price;
 use assessment::settings::MonthSettings;
 
 // An open month, within its limits.
 #[derive(Clone, Copy)]
 pub struct OpenMonth {
     pub settings: MonthSettings,
-    pub price: u32,
-    ghost priced: { price ≤ 500000 },
+    pub price: Price,
 }
 
 // A calendar month.
-#[derive(Clone, Copy)]
+#[derive(Clone, Copy, PartialEq, Eq, Debug)]
 pub struct MonthDate {
     pub year: u32,
     pub month: u32,

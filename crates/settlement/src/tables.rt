@@ -1,16 +1,22 @@
 // What is handed in with a call: plain entries, checked before they are used.
+ghost use Rattle.std.specs.Prelude.{◌≡◌};
+ghost use Rattle.settlement.specs.Tables.{pool_at};
+
+use crate::fault::ResourceDay;
 use assessment::line::{Line, LineState};
+use assessment::submission::DaySubmission;
 use assessment::trade_month::TradeMonth;
+use pools::pool::Pool;
 
 // A resource of the month, by its place in the roster.
-#[derive(Clone, Copy)]
+#[derive(Clone, Copy, PartialEq, Eq, Debug)]
 pub struct RosterEntry {
     pub identifier: u32,
     pub category: u32,
 }
 
 // What a month is opened with.
-#[derive(Clone, Copy)]
+#[derive(Clone, Copy, PartialEq, Eq, Debug)]
 pub struct MonthTerms {
     pub month: TradeMonth,
     // Cents for a megawatt and month.
@@ -19,8 +25,15 @@ pub struct MonthTerms {
     pub standing: u32,
 }
 
+// A resource's day, and what is submitted for it.
+#[derive(Clone, Copy, PartialEq, Eq, Debug)]
+pub struct SubmittedDay {
+    pub at: ResourceDay,
+    pub submission: DaySubmission,
+}
+
 // A line with what is charged or paid for it.
-#[derive(Clone, Copy)]
+#[derive(Clone, Copy, PartialEq, Eq, Debug)]
 pub struct LineEntry {
     pub line: Line,
     pub cents: u64,
@@ -40,8 +53,19 @@ impl LineEntry {
     };
 }
 
+// The pool of a place of the line table: two places a resource, generic first.
+pub fn pool_at(place: usize) -> Pool
+    ensures { result ≡ pool_at place }
+{
+    if place % 2 == 0 {
+        Pool::Generic
+    } else {
+        Pool::Flexible
+    }
+}
+
 // A load in GWh, and its share of each pool's balance in cents.
-#[derive(Clone, Copy)]
+#[derive(Clone, Copy, PartialEq, Eq, Debug)]
 pub struct LoadEntry {
     pub load: u64,
     pub generic: u64,
@@ -49,7 +73,7 @@ pub struct LoadEntry {
 }
 
 // What a close comes to in a pool.
-#[derive(Clone, Copy)]
+#[derive(Clone, Copy, PartialEq, Eq, Debug)]
 pub struct PoolClose {
     pub charges: u64,
     // Cents for a megawatt and month that eligible lines are paid.

@@ -1,32 +1,20 @@
 // A month of two resources, and a December with its release, through the public calls.
 use crate::fault::ResourceDay;
 use crate::settlement::Settlement;
-use crate::tables::{LineEntry, LoadEntry, MonthTerms, RosterEntry};
-use assessment::day_result::DayRow;
+use crate::tables::{LineEntry, LoadEntry, MonthTerms, RosterEntry, SubmittedDay};
 use assessment::flexible_rule::FlexibleRule;
 use assessment::generic_rule::GenericRule;
-use assessment::line::{Line, LineState};
+use assessment::rule_pair::SHIPPED_RULES;
 use assessment::submission::{Bid, DaySubmission, HourBids, Showing};
 use assessment::trade_month::TradeMonth;
 use fund::balance_book::BalanceBook;
 use fund::overlay::Overlay;
-use fund::pool::Pool;
+use pools::pool::Pool;
 
 const ROSTER: [RosterEntry; 2] = [RosterEntry {
     identifier: 7,
     category: 0,
 }; 2];
-
-const NO_LINE: LineEntry = LineEntry {
-    line: Line {
-        obligation: 0,
-        availability: 0,
-        days: 0,
-        state: LineState::Empty,
-        quantity: 0,
-    },
-    cents: 0,
-};
 
 fn terms(year: u32, month: u32, standing: u32) -> MonthTerms {
     MonthTerms {
@@ -70,15 +58,19 @@ type Desk = Settlement<Overlay<BalanceBook>, GenericRule, FlexibleRule>;
 
 // Opens the month, records both resources on a day, and closes it: the generic charges, rate and payments.
 fn settle(desk: &mut Desk, month: &MonthTerms, day: u32) -> Option<(u64, u64, u64)> {
-    let mut rows = [DayRow::Empty; 62];
-    let mut lines = [NO_LINE; 4];
+    let mut rows = [None; 62];
+    let mut lines = [LineEntry::EMPTY; 4];
     desk.open(month, &ROSTER, &mut rows).ok()?;
-    let first = ResourceDay { resource: 0, day };
-    desk.record(&ROSTER, &mut rows, first, &hundred_megawatts(0))
-        .ok()?;
-    let second = ResourceDay { resource: 1, day };
-    desk.record(&ROSTER, &mut rows, second, &hundred_megawatts(100_000))
-        .ok()?;
+    let first = SubmittedDay {
+        at: ResourceDay { resource: 0, day },
+        submission: hundred_megawatts(0),
+    };
+    desk.record(&ROSTER, &mut rows, &first).ok()?;
+    let second = SubmittedDay {
+        at: ResourceDay { resource: 1, day },
+        submission: hundred_megawatts(100_000),
+    };
+    desk.record(&ROSTER, &mut rows, &second).ok()?;
     let pools = desk.close(&ROSTER, &rows, &mut lines).ok()?;
     Some((
         pools.generic.charges,
@@ -89,7 +81,7 @@ fn settle(desk: &mut Desk, month: &MonthTerms, day: u32) -> Option<(u64, u64, u6
 
 #[test]
 fn june_of_two_resources(rt: HostRuntime) {
-    let mut desk = Settlement::start(Overlay::over(BalanceBook::new()), GenericRule, FlexibleRule);
+    let mut desk = Settlement::start(Overlay::over(BalanceBook::new()), SHIPPED_RULES);
     assert_eq!(rt;
         settle(&mut desk, &terms(2018, 6, 0), 1),
         Some((1_705_500, 1_137_000, 81_213))
@@ -101,7 +93,7 @@ fn june_of_two_resources(rt: HostRuntime) {
 
 #[test]
 fn advisory_december_and_release(rt: HostRuntime) {
-    let mut desk = Settlement::start(Overlay::over(BalanceBook::new()), GenericRule, FlexibleRule);
+    let mut desk = Settlement::start(Overlay::over(BalanceBook::new()), SHIPPED_RULES);
     assert!(rt; settle(&mut desk, &terms(2018, 11, 0), 1).is_some());
     let held = desk.account(Pool::Generic).binding;
     assert!(rt; settle(&mut desk, &terms(2018, 12, 1), 3).is_some());

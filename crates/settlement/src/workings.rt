@@ -1,80 +1,80 @@
 // A month's lines, worked out before anything is written to the caller's table.
-ghost use Rattle.std.specs.Prelude.{◌≡◌, ◌+◌, ◌*◌, ◌<◌, ◌≤◌, length, MatchOption};
-ghost use Rattle.assessment.specs.Days.{both};
+ghost use Rattle.std.specs.Prelude.{◌≡◌, ◌<◌, ◌≤◌, length};
 ghost use Rattle.assessment.specs.Laws.{LinesLaw};
 ghost use Rattle.assessment.specs.Lines.{lines_of};
-ghost use Rattle.fund.specs.declared.pool.Pool.TheVariants.{Generic, Flexible};
-ghost use Rattle.settlement.specs.Closing.{cents_at, charged_entry, charged_entries};
+ghost use Rattle.assessment.specs.Pairs.{rules_of};
+ghost use Rattle.pools.specs.declared.pool.Pool.TheVariants.{Generic, Flexible};
+ghost use Rattle.settlement.specs.Closing.{charged_entry, charged_entries};
 ghost use Rattle.settlement.specs.Tables.{category_of, places_of, DaysFit, EachRowWithin};
 
+use crate::price::{Price, Rate};
 use crate::stage::OpenMonth;
 use crate::tables::{LineEntry, RosterEntry};
 use assessment::category::Category;
 use assessment::day_result::DayRow;
 use assessment::line::{Line, LineState, MonthLines};
-use assessment::month::month_lines;
 use assessment::rule::AvailabilityRule;
+use assessment::rule_pair::RulePair;
 
-// The cents for a quantity in watts, at a rate or price in cents for a megawatt.
-pub(crate) fn cents_at(rate: u64, quantity: u64) -> u64
-    requires { (rate ≤ 1500000) × (quantity ≤ 58590000000) }
-    ensures { result ≡ cents_at rate quantity }
-{
-    rate * quantity / 1_000_000
-}
-
-fn charged(price: u32, line: Line) -> LineEntry
-    requires { (price ≤ 500000) × (line.quantity ≤ 58590000000) }
-    ensures { result ≡ charged_entry price line }
+fn charged(price: Price, line: Line) -> LineEntry
+    requires { line.quantity ≤ 58590000000 }
+    ensures { result ≡ charged_entry price.cents line }
 {
     let cents = match line.state {
-        LineState::Charged => cents_at(price as u64, line.quantity),
+        LineState::Charged => Rate::from(price).cents_for(line.quantity),
         LineState::Empty | LineState::Neutral | LineState::Paid => 0,
     };
     LineEntry { line, cents }
 }
 
-// The two lines of the i-th resource. Its tables fit, so there are always lines.
-fn resource_lines<G: AvailabilityRule, F: AvailabilityRule>(
-    month: &OpenMonth,
-    roster: &[RosterEntry],
-    rows: &[DayRow],
-    i: usize,
-    generic: &G,
-    flexible: &F,
-) -> Option<MonthLines>
-    requires { (DaysFit roster.now rows.now) × ((EachRowWithin rows.now) × (i < length roster.now)) }
-    ensures { MatchOption result ⊥ (λ l. (l ≡ lines_of (both (G.AvailabilityRule.means generic.now) (F.AvailabilityRule.means flexible.now)) month.now.settings.month (category_of roster.now i) (places_of rows.now i)) × LinesLaw l) }
-{
-    let category = Category::new(roster[i].category)?;
-    let first = 31 * i;
-    month_lines(
-        &month.settings,
-        category,
-        &rows[first..first + 31],
-        generic,
-        flexible,
-    )
+// What a month's lines are worked out from: tables that fit, so that every resource has lines.
+#[derive(Clone, Copy)]
+pub(crate) struct MonthTables<'a> {
+    pub month: &'a OpenMonth,
+    pub roster: &'a [RosterEntry],
+    pub rows: &'a [DayRow],
+    ghost fit: { DaysFit roster.now rows.now },
+    ghost within: { EachRowWithin rows.now },
 }
 
-// Fills in each pool's lines, charged lines with their cents and eligible ones at 0.
-pub(crate) fn work_out<G: AvailabilityRule, F: AvailabilityRule>(
-    month: &OpenMonth,
-    roster: &[RosterEntry],
-    rows: &[DayRow],
-    generic: &G,
-    flexible: &F,
-    generic_lines: &mut [LineEntry],
-    flexible_lines: &mut [LineEntry],
-) -> Option<()>
-    requires fit { (DaysFit roster.now rows.now) × (EachRowWithin rows.now) }
-    requires long { (length generic_lines.old ≡ length roster.now) × (length flexible_lines.old ≡ length roster.now) }
-    ensures { MatchOption result ⊥ (λ _. (generic_lines.new ≡ charged_entries (both (G.AvailabilityRule.means generic.now) (F.AvailabilityRule.means flexible.now)) month.now.settings.month month.now.price roster.now rows.now Generic) × (flexible_lines.new ≡ charged_entries (both (G.AvailabilityRule.means generic.now) (F.AvailabilityRule.means flexible.now)) month.now.settings.month month.now.price roster.now rows.now Flexible)) }
-{
-    for i in 0..roster.len() {
-        let lines = resource_lines(month, roster, rows, i, generic, flexible)?;
-        generic_lines[i] = charged(month.price, lines.generic);
-        flexible_lines[i] = charged(month.price, lines.flexible);
+impl MonthTables<'_> {
+    // The two lines of the i-th resource.
+    fn resource_lines<G: AvailabilityRule, F: AvailabilityRule>(
+        &self,
+        i: usize,
+        rules: &RulePair<G, F>,
+    ) -> MonthLines
+        requires { i < length self.now.roster.now }
+        ensures is { result ≡ lines_of (rules_of G.means F.means rules.now) self.now.month.now.settings.month (category_of self.now.roster.now i) (places_of self.now.rows.now i) }
+        ensures law { LinesLaw result }
+    {
+        let category = Category::try_from(self.roster[i].category).unwrap();
+        let first = 31 * i;
+        rules
+            .month_lines(
+                &self.month.settings,
+                category,
+                &self.rows[first..first + 31],
+            )
+            .unwrap()
     }
-    Some(())
+
+    // Fills in each pool's lines, charged lines with their cents and eligible ones at 0.
+    pub(crate) fn work_out<G: AvailabilityRule, F: AvailabilityRule>(
+        &self,
+        rules: &RulePair<G, F>,
+        generic: &mut [LineEntry],
+        flexible: &mut [LineEntry],
+    )
+        requires generic_long { length generic.old ≡ length self.now.roster.now }
+        requires flexible_long { length flexible.old ≡ length self.now.roster.now }
+        ensures generic { generic.new ≡ charged_entries (rules_of G.means F.means rules.now) self.now.month.now.settings.month self.now.month.now.price.cents self.now.roster.now self.now.rows.now Generic }
+        ensures flexible { flexible.new ≡ charged_entries (rules_of G.means F.means rules.now) self.now.month.now.settings.month self.now.month.now.price.cents self.now.roster.now self.now.rows.now Flexible }
+    {
+        for i in 0..self.roster.len() {
+            let lines = self.resource_lines(i, rules);
+            generic[i] = charged(self.month.price, lines.generic);
+            flexible[i] = charged(self.month.price, lines.flexible);
+        }
+    }
 }

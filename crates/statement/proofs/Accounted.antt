@@ -3,18 +3,17 @@ use Rattle.std.proofs.Common.{◌≡◌, ℕ, zero, suc, ◌+◌, ◌-◌, ◌*�
 use lib.ListN.{length-replicate}
 use Rattle.std.proofs.lemmas.Bool.{false≢true, ltb-true, leb-true}
 use Rattle.std.proofs.lemmas.Bool.Decides.{nat_tests}
-use Rattle.assessment.specs.declared.day_result.DayRow.{DayRow}
-use Rattle.assessment.specs.declared.day_result.DayRow.TheVariants as row
+use Rattle.assessment.specs.Figures.{DayRow}
 use Rattle.fund.specs.BalanceBook.{balance_book, no_money}
 use Rattle.fund.specs.Balances.{Balances, Within, limit, at, put}
 use Rattle.fund.specs.Meaning.{Lawful, TakesStanding, Stood, Posted, with_at}
 use Rattle.fund.specs.Overlay.{Overlaid, OverlaidSound, over}
-use Rattle.fund.specs.PerPool.{entry_of}
+use Rattle.pools.specs.PerPool.{entry_of}
 use Rattle.fund.specs.declared.fault.BookFault.TheVariants.{OverLimit}
-use Rattle.fund.specs.declared.pool.Pool.{Pool}
-use Rattle.fund.specs.declared.pool.Pool.TheVariants.{Generic, Flexible}
-use Rattle.fund.specs.declared.pool.Standing.{Standing}
-use Rattle.fund.specs.declared.pool.Standing.TheVariants.{Binding, Advisory}
+use Rattle.pools.specs.declared.pool.Pool.{Pool}
+use Rattle.pools.specs.declared.pool.Pool.TheVariants.{Generic, Flexible}
+use Rattle.fund.specs.declared.standing.Standing.{Standing}
+use Rattle.fund.specs.declared.standing.Standing.TheVariants.{Binding, Advisory}
 use Rattle.fund.specs.Overlaid.{overlay_lawful}
 use Rattle.settlement.proofs.Closings.{close_funded}
 use Rattle.settlement.proofs.Law.{accountants_law}
@@ -40,7 +39,7 @@ use Rattle.statement.specs.declared.fault.ReaderFault.{ReaderFault}
 use Rattle.statement.specs.declared.fault.ReaderFault.TheVariants.{Misplaced}
 use Rattle.statement.specs.declared.fault.StatementFault.{StatementFault}
 use Rattle.statement.specs.declared.records.FileRecord.TheVariants.{Month, Resource, Day}
-use Rattle.statement.specs.declared.records.SubmittedDay.{SubmittedDay}
+use Rattle.settlement.specs.declared.tables.SubmittedDay.{SubmittedDay}
 use Rattle.statement.proofs.Limits.{decides_terms, decides_between, decides_day, decides_flexible}
 use Rattle.statement.proofs.Recorded.{rows_stay}
 use Rattle.statement.proofs.Wholes.{empty_within}
@@ -62,9 +61,9 @@ pub same_ok : {A E : Type 0} (x y : A) → ◌≡◌ {A = Result A E} (Ok x) (Ok
 same_ok x y h = cc
 
 -- a day that the definition takes is one that the settlement takes
-is_free : (x : DayRow) → is_empty x ≡ true → x ≡ row.Empty
-is_free row.Empty h = refl
-is_free (row.Recorded f) h = absurd (false≢true h)
+is_free : (x : DayRow) → is_empty x ≡ true → x ≡ None
+is_free None h = refl
+is_free (Some f) h = absurd (false≢true h)
 
 pub recorded_taken : (t : MonthTerms) (roster : List RosterEntry) (rows more : List DayRow) (d : SubmittedDay) → DaysFit roster rows → recorded t roster rows d ≡ Ok more
     → recording.Records pool_rules (open_at t.month t.price) roster rows d.at d.submission (Ok (figures_of pool_rules (open_at t.month t.price) roster d.at d.submission)) more
@@ -155,12 +154,12 @@ shows_none Advisory Flexible = refl
 opened_runs : (t : MonthTerms) (roster : List RosterEntry) → RosterFits roster → TermsWithin t → MonthRuns t roster [] (no_days roster)
 unfolding open_view
 opened_runs t roster fits within =
-    let long : length (no_days roster) ≡ 31 * length roster = length-replicate (31 * length roster) row.Empty in
+    let long : length (no_days roster) ≡ 31 * length roster = length-replicate (31 * length roster) None in
     let sound : OverlaidSound Within (over balance_book no_money) = record { lower = record { generic = omega arith; flexible = omega arith }; showing = tt } in
     opens t roster (no_days roster) (no_days roster) (Ok tt) (starts (over balance_book no_money) sound) (
       record { fits = (fits, long); in_turn = tt; within = within; next = tt; stands = takes_standing (pool_book.stood (over balance_book no_money) Binding) (standing_of t.standing) },
       refl,
-      ap (λ (n : ℕ). replicate n row.Empty) (sym long),
+      ap (λ (n : ℕ). replicate n None) (sym long),
     )
 
 -- the day table fits and is within its limits, and the days so far are a run
@@ -268,7 +267,7 @@ from_part t part s fits h =
     let b = parts _ _ s a.1.1 in
     let opened = required (terms_within t) _ _ _ (told_ok 0 _ a.0 a.1.0) in
     let start : Held t part.roster [] (no_days part.roster) = record {
-      fit = (fits, length-replicate (31 * length part.roster) row.Empty);
+      fit = (fits, length-replicate (31 * length part.roster) None);
       within = empty_within _ (31 * length part.roster) refl;
       run = opened_runs t part.roster fits ((decides_terms t).0 opened.0);
     } in

@@ -1,7 +1,7 @@
 -- One step of recording the days.
 use Rattle.std.proofs.Common.{◌≡◌, ℕ, ◌+◌, ◌<◌, ◌≤◌, List, [], ◌∷◌, length, drop, Ok, Err, Result, sym, refl, ap, ◌∙◌, arith}
 use Rattle.std.proofs.lemmas.List.{drop-drop}
-use Rattle.assessment.specs.declared.day_result.DayRow.{DayRow}
+use Rattle.assessment.specs.Figures.{DayRow}
 use Rattle.settlement.specs.declared.fault.SettlementFault.{SettlementFault}
 use Rattle.settlement.specs.declared.tables.MonthTerms.{MonthTerms}
 use Rattle.settlement.specs.declared.tables.RosterEntry.{RosterEntry}
@@ -14,7 +14,7 @@ use Rattle.statement.specs.declared.fault.Located.{Located}
 use Rattle.statement.specs.declared.fault.ReaderFault.{ReaderFault}
 use Rattle.statement.specs.declared.fault.StatementFault.TheVariants.{Reader}
 use Rattle.statement.specs.declared.records.FileRecord.{FileRecord}
-use Rattle.statement.specs.declared.records.SubmittedDay.{SubmittedDay}
+use Rattle.settlement.specs.declared.tables.SubmittedDay.{SubmittedDay}
 use Rattle.statement.proofs.Parsed.{records_at, records_none, rest_day, placed_err}
 
 module _ (t : MonthTerms) (roster : List RosterEntry) (rows : List DayRow) where

@@ -9,7 +9,8 @@ use Rattle.settlement.specs.declared.fault.SettlementFault.{SettlementFault}
 use Rattle.settlement.specs.declared.fault.SettlementFault.TheVariants.{UnfitTables, OutOfTurn, UnfitTerms, NotNextMonth, UnfitLoads, UnknownResource, NoSuchDay, AlreadyRecorded, DayOverLimit, FlexibleInCategory0, Book}
 use Rattle.settlement.specs.Faults as settlement
 use Rattle.statement.specs.Faults.{label}
-use Rattle.statement.specs.Laws.{OneLine, RefusedInOneLine, RecordsDecide}
+use Rattle.statement.specs.Files.{records_of}
+use Rattle.statement.specs.Laws.{OneLine, RefusedInOneLine}
 use Rattle.statement.specs.Printing.{printed, is_taken, output, is_settled}
 use Rattle.statement.specs.Rows.{refusal_row}
 use Rattle.statement.specs.Settling.{MonthStatement, settled_records, settled}
@@ -66,7 +67,7 @@ letter f = (letter_unbroken f, tt)
 refusal_line : (f : StatementFault) → OneLine (refusal_row f)
 refusal_line f =
     let a = decimal (label f).number in
-    let b = decimal (label f).offset in
+    let b = decimal (label f).place in
     let l = (label f).layer ∷ [] in
     record {
       front = codes "REFUSED " ++ a ++ codes " " ++ l ++ codes " " ++ b;
@@ -76,7 +77,7 @@ refusal_line f =
           (All-append NoFeed (codes "REFUSED " ++ a ++ codes " " ++ l) (codes " ")
           (All-append NoFeed (codes "REFUSED " ++ a ++ codes " ") l
           (All-append NoFeed (codes "REFUSED " ++ a) (codes " ")
-          (All-append NoFeed (codes "REFUSED ") a word (decimal_unbroken (label f).number)) space) (letter f)) space) (decimal_unbroken (label f).offset);
+          (All-append NoFeed (codes "REFUSED ") a word (decimal_unbroken (label f).number)) space) (letter f)) space) (decimal_unbroken (label f).place);
     }
 
 line_of : (r : Result MonthStatement StatementFault) → is_taken r ≡ false → OneLine (printed r)
@@ -87,6 +88,11 @@ pub refused_in_one_line : RefusedInOneLine
 unfolding output is_settled
 refused_in_one_line bs h = line_of (settled bs) h
 
-pub records_decide : RecordsDecide
-unfolding output is_settled settled
-records_decide bs cs h = (ap (λ rs. printed (settled_records rs)) h, ap (λ rs. is_taken (settled_records rs)) h)
+-- equal records give equal outputs, settled or refused alike
+pub same_output : (bs cs : List ℕ) → records_of bs ≡ records_of cs → output bs ≡ output cs
+unfolding output settled
+same_output bs cs h = ap (λ rs. printed (settled_records rs)) h
+
+pub same_settled : (bs cs : List ℕ) → records_of bs ≡ records_of cs → is_settled bs ≡ is_settled cs
+unfolding is_settled settled
+same_settled bs cs h = ap (λ rs. is_taken (settled_records rs)) h

@@ -1,5 +1,7 @@
 pub mod Enrolled
 pub mod Parsed
+pub mod Fields
+pub mod InMemory
 pub mod Rostering
 pub mod Limits
 pub mod Recorded

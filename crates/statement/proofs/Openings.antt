@@ -1,18 +1,17 @@
 -- A settlement's open and close are the definition's.
-use Rattle.std.proofs.Common.{◌≡◌, ℕ, List, length, replicate, Ok, Err, Result, refl, ◌∙◌, subst, arith}
+use Rattle.std.proofs.Common.{◌≡◌, ℕ, List, length, replicate, Ok, Err, Result, refl, ap, ◌∙◌, subst, arith, None}
 use Rattle.std.proofs.lemmas.Bool.{true≢false, le-leb, lt-leb}
-use Rattle.assessment.specs.declared.day_result.DayRow.{DayRow}
-use Rattle.assessment.specs.declared.day_result.DayRow.TheVariants as row
+use Rattle.assessment.specs.Figures.{DayRow}
 use Rattle.fund.specs.BalanceBook.{balance_book, no_money}
 use Rattle.fund.specs.Balances.{Balances, limit}
 use Rattle.fund.specs.Meaning.{RefusesStanding}
 use Rattle.fund.specs.Overlay.{Overlaid, over}
 use Rattle.fund.specs.declared.fault.BookFault.{BookFault}
 use Rattle.fund.specs.declared.fault.BookFault.TheVariants.{UnfitPlaces, NoFreePlace, OverLimit, AboveBalance, NoAdvisoryMonths}
-use Rattle.fund.specs.declared.per_pool.PerPool.{PerPool}
-use Rattle.fund.specs.declared.pool.Pool.TheVariants.{Generic, Flexible}
-use Rattle.fund.specs.declared.pool.Standing.{Standing}
-use Rattle.fund.specs.declared.pool.Standing.TheVariants.{Binding, Advisory}
+use Rattle.pools.specs.declared.per_pool.PerPool.{PerPool}
+use Rattle.pools.specs.declared.pool.Pool.TheVariants.{Generic, Flexible}
+use Rattle.fund.specs.declared.standing.Standing.{Standing}
+use Rattle.fund.specs.declared.standing.Standing.TheVariants.{Binding, Advisory}
 use Rattle.settlement.specs.Closing.{Closes}
 use Rattle.settlement.specs.Opening.{started, Opens, standing_of}
 use Rattle.settlement.specs.Tables.{DaysFit, AllFit}
@@ -35,7 +34,7 @@ never_refuses s Binding e h = h
 never_refuses s Advisory e h = true≢false h.1
 
 module _ (t : MonthTerms) (roster : List RosterEntry) (rows rows' : List DayRow) (w : View (Overlaid Balances)) (fit : DaysFit roster rows) where
-  taken_as : (a : Result (Unit {0}) SettlementFault) (x : Unit {0}) → a ≡ Ok x → Opens pool_book start_view t roster rows a w rows' → (opens t ≡ Ok tt) × (w ≡ open_view t) × (rows' ≡ replicate (length rows) row.Empty)
+  taken_as : (a : Result (Unit {0}) SettlementFault) (x : Unit {0}) → a ≡ Ok x → Opens pool_book start_view t roster rows a w rows' → (opens t ≡ Ok tt) × (w ≡ open_view t) × (rows' ≡ replicate (length rows) None)
   unfolding open_view
   taken_as (Ok y) x h o = (met _ _ _ ((decides_terms t).1 o.0.within), o.1, o.2)
   taken_as (Err e) x h o = let z : ◌≡◌ {A = ℕ} 0 1 = cc in absurd (omega arith)
@@ -57,11 +56,20 @@ module _ (t : MonthTerms) (roster : List RosterEntry) (rows rows' : List DayRow)
   refused_with (Ok y) e h o = let z : ◌≡◌ {A = ℕ} 0 1 = cc in absurd (omega arith)
   refused_with (Err f) e h o = let q = refused_as f o in cc
 
-  pub open_taken : (v : View (Overlaid Balances)) (a : Result (Unit {0}) SettlementFault) (x : Unit {0}) → v ≡ start_view → a ≡ Ok x → Opens pool_book v t roster rows a w rows' → (opens t ≡ Ok tt) × (w ≡ open_view t) × (rows' ≡ replicate (length rows) row.Empty)
+  pub open_taken : (v : View (Overlaid Balances)) (a : Result (Unit {0}) SettlementFault) (x : Unit {0}) → v ≡ start_view → a ≡ Ok x → Opens pool_book v t roster rows a w rows' → (opens t ≡ Ok tt) × (w ≡ open_view t) × (rows' ≡ replicate (length rows) None)
   open_taken v a x e h o = taken_as a x h (subst (λ (u : View (Overlaid Balances)). Opens pool_book u t roster rows a w rows') e o)
 
   pub open_refused : (v : View (Overlaid Balances)) (a : Result (Unit {0}) SettlementFault) (f : SettlementFault) → v ≡ start_view → a ≡ Err f → Opens pool_book v t roster rows a w rows' → opens t ≡ Err f
   open_refused v a f e h o = refused_with a f h (subst (λ (u : View (Overlaid Balances)). Opens pool_book u t roster rows a w rows') e o)
+
+-- an opened month's book stands as the terms say
+stood_as : (d : Standing) → pool_book.standing (pool_book.stood start_view.book d) ≡ d
+stood_as Binding = refl
+stood_as Advisory = refl
+
+pub open_standing : (t : MonthTerms) (v : View (Overlaid Balances)) → v ≡ open_view t → pool_book.standing v.book ≡ standing_of t.standing
+unfolding open_view
+open_standing t v e = ap (λ (u : View (Overlaid Balances)). pool_book.standing u.book) e ∙ stood_as (standing_of t.standing)
 
 module _ (t : MonthTerms) (roster : List RosterEntry) (rows : List DayRow) (lines lines' : List LineEntry) (w : View (Overlaid Balances)) (fit : AllFit roster rows lines) where
   closed_as : (a : Result (PerPool PoolClose) SettlementFault) (p : PerPool PoolClose) → a ≡ Ok p → Closes pool_book pool_rules (open_view t) roster rows lines a w lines'

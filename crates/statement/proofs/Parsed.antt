@@ -4,7 +4,7 @@ use Rattle.std.proofs.lemmas.List.{drop_all, take_rest}
 use Rattle.std.proofs.lemmas.Bool.{eq-eqb, ne_eqb, cases_eq}
 use Rattle.settlement.specs.declared.tables.MonthTerms.{MonthTerms}
 use Rattle.settlement.specs.declared.tables.RosterEntry.{RosterEntry}
-use Rattle.statement.specs.Answers.{Leaves, Answers}
+use Rattle.statement.specs.Answers.{Leaves}
 use Rattle.statement.specs.Files.{Records, records_from, records_of}
 use Rattle.statement.specs.Layout.{record_of, size_of}
 use Rattle.statement.specs.Located.{placed}
@@ -13,7 +13,7 @@ use Rattle.statement.specs.declared.fault.Located.{Located}
 use Rattle.statement.specs.declared.fault.ReaderFault.{ReaderFault}
 use Rattle.statement.specs.declared.records.FileRecord.{FileRecord}
 use Rattle.statement.specs.declared.records.FileRecord.TheVariants.{Month, Resource, Day}
-use Rattle.statement.specs.declared.records.SubmittedDay.{SubmittedDay}
+use Rattle.settlement.specs.declared.tables.SubmittedDay.{SubmittedDay}
 
 size_some : (x : FileRecord) → 0 < size_of x
 size_some (Month t) = omega arith
@@ -126,11 +126,3 @@ leaves_err (Err f) v d e h l = cc
 
 pub take_rest_length : (bs : List ℕ) (at : ℕ) → length (take (length bs - at) (drop at bs)) ≡ length bs - at
 take_rest_length bs at = ap length (take_rest bs at) ∙ length-drop at bs
-
-pub answers_ok : {T E V : Type 0} (see : T → V) (r : Result T E) (d : Result V E) (x : T) → r ≡ Ok x → Answers see r d → d ≡ Ok (see x)
-answers_ok see (Ok y) d x h l = cc
-answers_ok see (Err e) d x h l = let z : ◌≡◌ {A = ℕ} 0 1 = cc in absurd (omega arith)
-
-pub answers_err : {T E V : Type 0} (see : T → V) (r : Result T E) (d : Result V E) (e : E) → r ≡ Err e → Answers see r d → d ≡ Err e
-answers_err see (Ok y) d e h l = let z : ◌≡◌ {A = ℕ} 0 1 = cc in absurd (omega arith)
-answers_err see (Err f) d e h l = cc

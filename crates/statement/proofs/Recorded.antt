@@ -1,5 +1,5 @@
 -- A settlement's record of a day is the definition's, and keeps every row within its limits.
-use Rattle.std.proofs.Common.{◌≡◌, ℕ, Bool, true, false, List, length, set, Ok, Err, Result, sym, refl, ap, ◌∙◌, subst, inl, inr, arith, length-set}
+use Rattle.std.proofs.Common.{◌≡◌, ℕ, Bool, true, false, List, length, set, Ok, Err, Result, sym, refl, ap, ◌∙◌, subst, inl, inr, arith, length-set, None, Some}
 use native.Mathlib.Nat.{min-le_left, min-le_right}
 use Rattle.std.proofs.lemmas.List.{get_or-set_same, get_or-set_other}
 use Rattle.std.proofs.lemmas.Bool.{lt-ltb, le-ltb, cases_eq}
@@ -7,9 +7,7 @@ use Rattle.assessment.proofs.DayLaws.{day_law}
 use Rattle.assessment.specs.Days.{DayCase, day_figures}
 use Rattle.assessment.specs.Laws.{RulesOwed}
 use Rattle.assessment.specs.Lines.{RowWithin}
-use Rattle.assessment.specs.declared.day_result.DayFigures.{DayFigures}
-use Rattle.assessment.specs.declared.day_result.DayRow.{DayRow}
-use Rattle.assessment.specs.declared.day_result.DayRow.TheVariants as row
+use Rattle.assessment.specs.Figures.{DayFigures, DayRow}
 use Rattle.settlement.specs.Recording as recording
 use Rattle.settlement.specs.Recording.{place_of, figures_of}
 use Rattle.settlement.specs.Tables.{DaysFit, EachRowWithin}
@@ -21,7 +19,7 @@ use Rattle.settlement.specs.declared.tables.MonthTerms.{MonthTerms}
 use Rattle.settlement.specs.declared.tables.RosterEntry.{RosterEntry}
 use Rattle.statement.specs.Answers.{require, Leaves}
 use Rattle.statement.specs.Settling.{is_empty, pool_rules, recorded}
-use Rattle.statement.specs.declared.records.SubmittedDay.{SubmittedDay}
+use Rattle.settlement.specs.declared.tables.SubmittedDay.{SubmittedDay}
 use Rattle.statement.proofs.Limits.{refuted, decides_between, decides_day, decides_flexible}
 
 pub met : {A E : Type 0} (b : Bool) (e : E) (r : Result A E) → b ≡ true → require b e r ≡ r
@@ -30,9 +28,9 @@ met b e r h = rw h
 pub unmet : {A E : Type 0} (b : Bool) (e : E) (r : Result A E) → b ≡ false → require b e r ≡ Err e
 unmet b e r h = rw h
 
-not_empty : (x : DayRow) → (x ≡ row.Empty → ⊥) → is_empty x ≡ false
-not_empty row.Empty n = absurd (n refl)
-not_empty (row.Recorded f) n = refl
+not_empty : (x : DayRow) → (x ≡ None → ⊥) → is_empty x ≡ false
+not_empty None n = absurd (n refl)
+not_empty (Some f) n = refl
 
 pub recorded_is : (t : MonthTerms) (roster : List RosterEntry) (rows rows' : List DayRow) (d : SubmittedDay) (a : Result DayFigures SettlementFault)
     → DaysFit roster rows → recording.Records pool_rules (open_at t.month t.price) roster rows d.at d.submission a rows' → Leaves a rows' (recorded t roster rows d)
@@ -43,7 +41,7 @@ recorded_is t roster rows rows' d (Ok f) fit h =
     ∙ met _ _ _ (ap is_empty h.0.free)
     ∙ met _ _ _ ((decides_day d.submission).1 h.0.within)
     ∙ met _ _ _ ((decides_flexible _ d.submission).1 h.0.allowed)
-    ∙ ap Ok (ap (λ (x : DayFigures). set rows (place_of d.at) (row.Recorded x)) (sym h.1) ∙ sym h.2)
+    ∙ ap Ok (ap (λ (x : DayFigures). set rows (place_of d.at) (Some x)) (sym h.1) ∙ sym h.2)
 recorded_is t roster rows rows' d (Err UnfitTables) fit h = absurd (h.0 fit)
 recorded_is t roster rows rows' d (Err OutOfTurn) fit h = absurd (h.0.1 tt)
 recorded_is t roster rows rows' d (Err UnfitTerms) fit h = absurd h.0
@@ -83,7 +81,7 @@ rules_owed = record {
   flexible = record { economic = λ o e s. min-le_right o e; scheduled = λ o e s. omega arith; taken = λ o e s. omega (arith, min-le_left o e) };
 }
 
-figures_within : (c : DayCase) (f : DayFigures) → f ≡ day_figures pool_rules c → recording.DayWithin c.submission → RowWithin (row.Recorded f)
+figures_within : (c : DayCase) (f : DayFigures) → f ≡ day_figures pool_rules c → recording.DayWithin c.submission → RowWithin (Some f)
 figures_within c f e w =
     let l = day_law pool_rules c rules_owed in
     rw e ((l.generic_within, omega (arith, l.generic_capped)), (l.flexible_within, omega (arith, l.flexible_capped)))
@@ -91,12 +89,12 @@ figures_within c f e w =
 set_within : (rows : List DayRow) (i : ℕ) (x : DayRow) → RowWithin x → EachRowWithin rows → EachRowWithin (set rows i x)
 set_within rows i x w h k lt =
     elim (cases_eq k i) [
-      | inl e ↦ rw e (subst RowWithin (sym (get_or-set_same rows i x row.Empty (omega (arith, length-set rows i x)))) w)
-      | inr ne ↦ subst RowWithin (sym (get_or-set_other rows i k x row.Empty ne)) (h k (omega (arith, length-set rows i x)))
+      | inl e ↦ rw e (subst RowWithin (sym (get_or-set_same rows i x None (omega (arith, length-set rows i x)))) w)
+      | inr ne ↦ subst RowWithin (sym (get_or-set_other rows i k x None ne)) (h k (omega (arith, length-set rows i x)))
     ]
 
 pub rows_stay : (t : MonthTerms) (roster : List RosterEntry) (rows rows' : List DayRow) (d : SubmittedDay) (a : Result DayFigures SettlementFault)
     → recording.Records pool_rules (open_at t.month t.price) roster rows d.at d.submission a rows' → EachRowWithin rows → EachRowWithin rows'
 rows_stay t roster rows rows' d (Ok f) h w =
-    subst EachRowWithin (sym h.2) (set_within rows (place_of d.at) (row.Recorded f) (figures_within _ f h.1 h.0.within) w)
+    subst EachRowWithin (sym h.2) (set_within rows (place_of d.at) (Some f) (figures_within _ f h.1 h.0.within) w)
 rows_stay t roster rows rows' d (Err e) h w = subst EachRowWithin (sym h.1) w

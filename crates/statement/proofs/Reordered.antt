@@ -3,8 +3,7 @@ use Rattle.std.proofs.Common.{◌≡◌, ℕ, ◌+◌, ◌*◌, ◌<◌, Bool, t
 use lib.ListN.{length-replicate}
 use Rattle.std.proofs.lemmas.List.{get_or-set_same, get_or-set_other, set_comm}
 use Rattle.assessment.proofs.LineLaws.{days_few}
-use Rattle.assessment.specs.declared.day_result.DayRow.{DayRow}
-use Rattle.assessment.specs.declared.day_result.DayRow.TheVariants as row
+use Rattle.assessment.specs.Figures.{DayRow}
 use Rattle.settlement.specs.Recording.{place_of, figures_of, MayTakeDay}
 use Rattle.settlement.specs.Tables.{DaysFit, RosterFits}
 use Rattle.settlement.specs.Views.{open_at}
@@ -20,13 +19,13 @@ use Rattle.statement.specs.declared.fault.ReaderFault.{ReaderFault}
 use Rattle.statement.specs.declared.fault.ReaderFault.TheVariants.{Misplaced}
 use Rattle.statement.specs.declared.fault.StatementFault.{StatementFault}
 use Rattle.statement.specs.declared.records.FileRecord.TheVariants.{Month, Resource, Day}
-use Rattle.statement.specs.declared.records.SubmittedDay.{SubmittedDay}
+use Rattle.settlement.specs.declared.tables.SubmittedDay.{SubmittedDay}
 use Rattle.statement.proofs.Accounted.{not_taken, parts, same_ok, recorded_taken, listed_fits}
 use Rattle.statement.proofs.Recorded.{recorded_is}
 
 module _ (t : MonthTerms) (roster : List RosterEntry) where
   abbrev row_of : SubmittedDay → DayRow
-  row_of d = row.Recorded (figures_of pool_rules (open_at t.month t.price) roster d.at d.submission)
+  row_of d = Some (figures_of pool_rules (open_at t.month t.price) roster d.at d.submission)
 
   abbrev MayTake : List DayRow → SubmittedDay → Type 0
   MayTake rows d = MayTakeDay (open_at t.month t.price) roster rows d.at d.submission
@@ -44,8 +43,8 @@ module _ (t : MonthTerms) (roster : List RosterEntry) where
 
   apart : (rows : List DayRow) (c d : SubmittedDay) → MayTake rows c → MayTake (set rows (place_of c.at) (row_of c)) d → place_of d.at ≢ place_of c.at
   apart rows c d k l e =
-      let is = get_or-set_same rows (place_of c.at) (row_of c) row.Empty (inside rows c k) in
-      let free = subst (λ (i : ℕ). get_or (set rows (place_of c.at) (row_of c)) i row.Empty ≡ row.Empty) e l.free in
+      let is = get_or-set_same rows (place_of c.at) (row_of c) None (inside rows c k) in
+      let free = subst (λ (i : ℕ). get_or (set rows (place_of c.at) (row_of c)) i None ≡ None) e l.free in
       let z : ◌≡◌ {A = ℕ} 0 1 = cc in
       omega arith
 
@@ -59,7 +58,7 @@ module _ (t : MonthTerms) (roster : List RosterEntry) where
           in_turn = tt;
           known = l.known;
           dated = l.dated;
-          free = sym (get_or-set_other rows (place_of c.at) (place_of d.at) (row_of c) row.Empty ne) ∙ l.free;
+          free = sym (get_or-set_other rows (place_of c.at) (place_of d.at) (row_of c) None ne) ∙ l.free;
           within = l.within;
           allowed = l.allowed;
         },
@@ -68,7 +67,7 @@ module _ (t : MonthTerms) (roster : List RosterEntry) where
           in_turn = tt;
           known = k.known;
           dated = k.dated;
-          free = get_or-set_other rows (place_of d.at) (place_of c.at) (row_of d) row.Empty en ∙ k.free;
+          free = get_or-set_other rows (place_of d.at) (place_of c.at) (row_of d) None en ∙ k.free;
           within = k.within;
           allowed = k.allowed;
         },
@@ -166,7 +165,7 @@ part_swap t part zs ys c d s fits e h =
     let a = parts (told_at 0 (opens t)) _ s h in
     let b = parts (days_from t part.roster (no_days part.roster) part.offset part.rest) _ s a.1.1 in
     let dated = subst (λ (x : Records). days_from t part.roster (no_days part.roster) part.offset x ≡ Ok b.0) e b.1.0 in
-    let fit : DaysFit part.roster (no_days part.roster) = (fits, length-replicate (31 * length part.roster) row.Empty) in
+    let fit : DaysFit part.roster (no_days part.roster) = (fits, length-replicate (31 * length part.roster) None) in
     let swapped = days_swap t part.roster zs ys c d part.offset b.0 (no_days part.roster) fit dated in
     ap (λ (x : Result (Unit {0}) StatementFault). and_then x (λ _. and_then (days_from t part.roster (no_days part.roster) part.offset (zs ++ Ok (Day d) ∷ Ok (Day c) ∷ ys)) (λ days. told_at days.offset (closed_month t part.roster days.rows)))) a.1.0
     ∙ ap (λ (x : Result DaysPart StatementFault). and_then x (λ days. told_at days.offset (closed_month t part.roster days.rows))) swapped

@@ -1,5 +1,8 @@
 -- Answers that are taken or refused, one after another.
 use Rattle.std.specs.Prelude.{◌≡◌, Bool, cond, Ok, Err, Result}
+use Rattle.statement.specs.declared.fault.MonthError.{MonthError}
+use Rattle.statement.specs.declared.fault.MonthError.TheVariants.{Fault, OutOfMemory}
+use Rattle.statement.specs.declared.fault.StatementFault.{StatementFault}
 
 -- an answer where the test holds, else the fault
 abbrev pub require : {A E : Type 0} → Bool → E → Result A E → Result A E
@@ -15,7 +18,9 @@ abbrev pub Leaves : {T E V : Type 0} → Result T E → V → Result V E → Typ
 Leaves (Ok x) v d = d ≡ Ok v
 Leaves (Err e) v d = d ≡ Err e
 
--- For inner contracts: the same of a call that returns its value, which `see` turns into that of the definition.
-abbrev pub Answers : {T E V : Type 0} → (T → V) → Result T E → Result V E → Type 0
-Answers see (Ok x) d = d ≡ Ok (see x)
-Answers see (Err e) d = d ≡ Err e
+-- For inner contracts: the same of a call that returns its value, which `see` turns into that of the definition. Memory that runs out
+-- tells nothing of the definition.
+abbrev pub AnswersInMemory : {T V : Type 0} → (T → V) → Result T MonthError → Result V StatementFault → Type 0
+AnswersInMemory see (Ok x) d = d ≡ Ok (see x)
+AnswersInMemory see (Err (Fault f)) d = d ≡ Err f
+AnswersInMemory see (Err OutOfMemory) d = Unit {0}

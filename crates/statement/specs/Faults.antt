@@ -5,7 +5,7 @@ use Rattle.statement.specs.declared.fault.ReaderFault.{ReaderFault}
 use Rattle.statement.specs.declared.fault.ReaderFault.TheVariants.{EndsInside, UnknownKind, Misplaced}
 use Rattle.statement.specs.declared.fault.StatementFault.{StatementFault}
 use Rattle.statement.specs.declared.fault.StatementFault.TheVariants.{Reader, Settlement}
-use Rattle.statement.specs.declared.fault.RefusalLabel.{RefusalLabel}
+use Rattle.fund.specs.declared.label.Label.{Label}
 
 -- a file that is empty or ends inside a record; a kind that is none; a record out of its place, or misnumbered
 abbrev pub reader_number : ReaderFault → ℕ
@@ -14,10 +14,10 @@ reader_number UnknownKind = 41
 reader_number Misplaced = 43
 
 -- the reader's layer has the letter R; a fault of the settlement, or of its book, keeps its own number and letter
-abbrev pub label : StatementFault → RefusalLabel
-label (Reader f) = record { number = reader_number f.fault; layer = 82; offset = f.offset }
+abbrev pub label : StatementFault → Label ℕ
+label (Reader f) = record { number = reader_number f.fault; layer = 82; place = f.offset }
 label (Settlement f) = record {
   number = (settlement.label f.fault).number;
   layer = (settlement.label f.fault).layer;
-  offset = f.offset;
+  place = f.offset;
 }

@@ -1,12 +1,12 @@
 -- What holds of the output of every month file.
 use Rattle.std.specs.Prelude.{◌≡◌, ℕ, ◌-◌, false, List, [], ◌∷◌, ◌++◌, Ok, Err, ◌≢◌}
 use Rattle.std.specs.List.{AllByRecursion}
-use Rattle.assessment.specs.declared.day_result.DayRow.{DayRow}
+use Rattle.assessment.specs.Figures.{DayRow}
 use Rattle.fund.specs.Balances.{Balances}
 use Rattle.fund.specs.Overlay.{Overlaid}
-use Rattle.fund.specs.PerPool.{entry_of}
-use Rattle.fund.specs.declared.pool.Pool.{Pool}
-use Rattle.fund.specs.declared.pool.Pool.TheVariants.{Generic, Flexible}
+use Rattle.pools.specs.PerPool.{entry_of}
+use Rattle.pools.specs.declared.pool.Pool.{Pool}
+use Rattle.pools.specs.declared.pool.Pool.TheVariants.{Generic, Flexible}
 use Rattle.settlement.specs.Accounts.{Settled}
 use Rattle.settlement.specs.Closing.{Closes}
 use Rattle.settlement.specs.Runs.{DayTaken, MonthClosed}
@@ -19,7 +19,7 @@ use Rattle.statement.specs.Printing.{statement_text, output, is_settled}
 use Rattle.statement.specs.Reading.{as_day}
 use Rattle.statement.specs.Settling.{MonthStatement, pool_book, pool_rules, open_view, open_book, settled_records, settled}
 use Rattle.statement.specs.declared.records.FileRecord.TheVariants.{Day}
-use Rattle.statement.specs.declared.records.SubmittedDay.{SubmittedDay}
+use Rattle.settlement.specs.declared.tables.SubmittedDay.{SubmittedDay}
 
 -- a line ends in a line feed, and has no other
 pub record OneLine (bs : List ℕ) : Type 0 where

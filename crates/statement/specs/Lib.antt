@@ -3,11 +3,12 @@ pub mod Located
 pub mod Faults
 pub mod Layout
 pub mod Reading
-pub mod Text
 pub mod Rows
 pub mod Rosters
 pub mod Files
 pub mod Settling
+pub mod Open
 pub mod Months
 pub mod Printing
+pub mod Refusals
 pub mod Laws

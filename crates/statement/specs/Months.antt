@@ -1,43 +1,27 @@
 -- For inner contracts: how the parts of a month that the code holds are read.
-use Rattle.std.specs.Prelude.{◌≡◌, ℕ, ◌*◌, List, take, drop, Ok, Err, Result}
-use Rattle.assessment.specs.declared.day_result.DayRow.{DayRow}
-use Rattle.assessment.specs.declared.flexible_rule.FlexibleRule.{FlexibleRule}
-use Rattle.assessment.specs.declared.generic_rule.GenericRule.{GenericRule}
-use Rattle.fund.specs.BalanceBook.{balances_of}
-use Rattle.fund.specs.Overlay.{overlaid_of}
-use Rattle.fund.specs.declared.balance_book.BalanceBook.{BalanceBook}
-use Rattle.fund.specs.declared.overlay.Overlay.{Overlay}
-use Rattle.settlement.specs.Views.{view}
-use Rattle.settlement.specs.declared.fault.SettlementFault.{SettlementFault}
-use Rattle.settlement.specs.declared.settlement.Settlement.{Settlement}
+use Rattle.std.specs.Prelude.{ℕ, List, drop, Ok, Result}
 use Rattle.settlement.specs.declared.tables.MonthTerms.{MonthTerms}
 use Rattle.settlement.specs.declared.tables.RosterEntry.{RosterEntry}
-use Rattle.settlement.specs.declared.tables.LineEntry.{LineEntry}
+use Rattle.statement.specs.Answers.{and_then}
 use Rattle.statement.specs.Files.{records_of, RosterPart}
-use Rattle.statement.specs.Rosters.{resources}
-use Rattle.statement.specs.Settling.{MonthStatement, open_view, opens, closed_month}
-use Rattle.statement.specs.declared.month.ClosedMonth.{ClosedMonth}
-use Rattle.statement.specs.declared.month.PoolsClosed.{PoolsClosed}
-use Rattle.statement.specs.declared.month.RosterRead.{RosterRead}
+use Rattle.statement.specs.Open.{MonthSoFar}
+use Rattle.statement.specs.Rosters.{days_offset}
+use Rattle.statement.specs.Settling.{MonthStatement, DaysPart, opens, told_at, no_days, days_from}
+use Rattle.statement.specs.declared.fault.StatementFault.{StatementFault}
+use Rattle.statement.specs.declared.closed_month.ClosedMonth.{ClosedMonth}
 
 -- the roster read from a file, and what follows it
-abbrev pub roster_part : List ℕ → RosterRead → RosterPart
-roster_part bs x = record { roster = resources x.roster; offset = x.end; rest = records_of (drop x.end bs) }
+abbrev pub roster_part : List ℕ → List RosterEntry → RosterPart
+roster_part bs roster = record { roster = roster; offset = days_offset roster; rest = records_of (drop (days_offset roster) bs) }
 
--- the month's settlement, opened as the terms say, or refused
-abbrev pub OpensMonth : MonthTerms → Result (Settlement (Overlay BalanceBook) GenericRule FlexibleRule) SettlementFault → Type 0
-OpensMonth t (Ok s) = (opens t ≡ Ok tt) × (view (overlaid_of balances_of) s ≡ open_view t)
-OpensMonth t (Err e) = opens t ≡ Err e
+-- the month opened over an empty day table
+abbrev pub opened_month : MonthTerms → List RosterEntry → Result MonthSoFar StatementFault
+opened_month t roster = and_then (told_at 0 (opens t)) (λ _. Ok (record { terms = t; roster = roster; rows = no_days roster }))
 
--- what a close tells of the month
-abbrev pub month_statement : MonthTerms → List LineEntry → PoolsClosed → MonthStatement
-month_statement t lines x = record { terms = t; lines = lines; pools = x.pools; shown = x.shown }
-
--- the month closed with these lines, or refused
-abbrev pub ClosesMonth : MonthTerms → List RosterEntry → List DayRow → Result PoolsClosed SettlementFault → List LineEntry → Type 0
-ClosesMonth t roster rows (Ok x) lines = closed_month t roster rows ≡ Ok (month_statement t lines x)
-ClosesMonth t roster rows (Err e) lines = closed_month t roster rows ≡ Err e
+-- the days that follow the resources, recorded
+abbrev pub days_recorded : MonthSoFar → List ℕ → Result DaysPart StatementFault
+days_recorded m bs = days_from m.terms m.roster m.rows (days_offset m.roster) (records_of (drop (days_offset m.roster) bs))
 
 -- a closed month, as its statement tells it
 abbrev pub closed_of : ClosedMonth → MonthStatement
-closed_of m = record { terms = m.terms; lines = take (2 * m.resources) m.lines; pools = m.pools; shown = m.shown }
+closed_of m = record { terms = m.terms; lines = m.lines.items; pools = m.pools; shown = m.shown }

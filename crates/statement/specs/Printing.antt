@@ -1,18 +1,14 @@
 -- The whole output of a month file: its statement, or the one line of its refusal.
-use Rattle.std.specs.Prelude.{ℕ, zero, suc, ◌/◌, ◌%◌, Bool, true, false, cond, List, [], ◌++◌, length, Ok, Err, Result, ◌==◌, slice_index_or}
+use Rattle.std.specs.Prelude.{ℕ, zero, suc, ◌/◌, Bool, true, false, List, [], ◌++◌, length, Ok, Err, Result, ◌==◌, slice_index_or}
 use Rattle.assessment.specs.declared.line.LineState.{LineState}
 use Rattle.assessment.specs.declared.line.LineState.TheVariants.{Empty, Charged, Neutral, Paid}
-use Rattle.fund.specs.declared.pool.Pool.{Pool}
-use Rattle.fund.specs.declared.pool.Pool.TheVariants.{Generic, Flexible}
+use Rattle.pools.specs.declared.pool.Pool.TheVariants.{Generic, Flexible}
 use Rattle.settlement.specs.Closing.{no_line}
+use Rattle.settlement.specs.Tables.{pool_at}
 use Rattle.settlement.specs.declared.tables.LineEntry.{LineEntry}
 use Rattle.statement.specs.Rows.{header_row, line_row, pool_row, refusal_row}
 use Rattle.statement.specs.Settling.{MonthStatement, settled}
 use Rattle.statement.specs.declared.fault.StatementFault.{StatementFault}
-
--- the pool of a place of the line table: two places a resource, generic first
-abbrev pub pool_at : ℕ → Pool
-pool_at k = cond (k % 2 == 0) Generic Flexible
 
 -- an empty line is not printed
 abbrev pub unless_empty : LineState → List ℕ → List ℕ

@@ -6,7 +6,7 @@ use Rattle.statement.specs.declared.fault.ReaderFault.{ReaderFault}
 use Rattle.statement.specs.declared.fault.ReaderFault.TheVariants.{Misplaced}
 use Rattle.statement.specs.declared.records.FileRecord.{FileRecord}
 use Rattle.statement.specs.declared.records.FileRecord.TheVariants.{Month, Resource, Day}
-use Rattle.statement.specs.declared.records.SubmittedDay.{SubmittedDay}
+use Rattle.settlement.specs.declared.tables.SubmittedDay.{SubmittedDay}
 
 -- where only a month may stand
 abbrev pub as_month : Result FileRecord ReaderFault → Result MonthTerms ReaderFault

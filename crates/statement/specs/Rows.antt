@@ -1,30 +1,23 @@
 -- The lines of a statement and of a refusal, as bytes: decimal fields parted by one space, and a line feed at the end.
-use Rattle.std.specs.Prelude.{ℕ, cond, List, [], ◌∷◌, ◌++◌, codes, decimal, ◌==◌, nat_lt}
+use Rattle.std.specs.Prelude.{ℕ, cond, List, [], ◌∷◌, ◌++◌, codes, decimal, nat_lt}
 use Rattle.assessment.specs.Lines.{letter}
-use Rattle.fund.specs.declared.pool.Pool.{Pool}
-use Rattle.fund.specs.declared.pool.Pool.TheVariants.{Generic, Flexible}
+use Rattle.pools.specs.Names.{pool_letter}
+use Rattle.fund.specs.Names.{standing_word}
+use Rattle.pools.specs.declared.pool.Pool.{Pool}
+use Rattle.settlement.specs.Opening.{standing_of}
 use Rattle.settlement.specs.declared.tables.MonthTerms.{MonthTerms}
 use Rattle.settlement.specs.declared.tables.LineEntry.{LineEntry}
 use Rattle.settlement.specs.declared.tables.PoolClose.{PoolClose}
 use Rattle.statement.specs.Faults.{label}
 use Rattle.statement.specs.declared.fault.StatementFault.{StatementFault}
 
--- G and F
-abbrev pub pool_letter : Pool → ℕ
-pool_letter Generic = 71
-pool_letter Flexible = 70
-
 -- a number below 100 in two digits
-unfoldable pub two_digits : ℕ → List ℕ
+abbrev pub two_digits : ℕ → List ℕ
 two_digits n = cond (nat_lt n 10) (codes "0" ++ decimal n) (decimal n)
-
--- 0 is binding, any other number advisory
-unfoldable pub standing_word : ℕ → List ℕ
-standing_word n = cond (n == 0) (codes "BINDING") (codes "ADVISORY")
 
 -- month and standing
 abbrev pub header_row : MonthTerms → List ℕ
-header_row t = codes "MONTH " ++ decimal t.month.year ++ codes "-" ++ two_digits t.month.month ++ codes " " ++ standing_word t.standing ++ codes "\n"
+header_row t = codes "MONTH " ++ decimal t.month.year ++ codes "-" ++ two_digits t.month.month ++ codes " " ++ standing_word (standing_of t.standing) ++ codes "\n"
 
 -- resource, pool, obligation, availability, state, cents
 abbrev pub line_row : ℕ → Pool → LineEntry → List ℕ
@@ -38,11 +31,7 @@ pool_row p c shown =
     codes "POOL " ++ (pool_letter p ∷ []) ++ codes " " ++ decimal c.charges ++ codes " " ++ decimal c.rate ++ codes " "
     ++ decimal c.payments ++ codes " " ++ decimal shown ++ codes "\n"
 
--- for inner contracts: a letter as a byte; every layer's letter is of the ASCII set
-abbrev pub letter_byte : ℕ → ℕ
-letter_byte letter = cond (nat_lt letter 128) letter 63
-
 -- number, layer, byte offset
 abbrev pub refusal_row : StatementFault → List ℕ
 refusal_row f =
-    codes "REFUSED " ++ decimal (label f).number ++ codes " " ++ ((label f).layer ∷ []) ++ codes " " ++ decimal (label f).offset ++ codes "\n"
+    codes "REFUSED " ++ decimal (label f).number ++ codes " " ++ ((label f).layer ∷ []) ++ codes " " ++ decimal (label f).place ++ codes "\n"

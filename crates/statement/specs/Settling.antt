@@ -1,5 +1,5 @@
 -- A month file settled: the month opened, its days recorded, the month closed.
-use Rattle.std.specs.Prelude.{ℕ, zero, suc, ◌+◌, ◌*◌, ◌/◌, ◌^◌, Bool, true, false, not, ◌&&◌, ◌||◌, List, [], ◌∷◌, length, replicate, Ok, Err, Result, ◌==◌, nat_le, nat_lt, slice_index_or, slice_set}
+use Rattle.std.specs.Prelude.{ℕ, zero, suc, ◌+◌, ◌*◌, ◌/◌, ◌^◌, Bool, true, false, not, ◌&&◌, ◌||◌, List, [], ◌∷◌, length, replicate, Ok, Err, Result, ◌==◌, nat_le, nat_lt, slice_index_or, slice_set, None, Some}
 use Rattle.assessment.specs.Calendar.{days_of}
 use Rattle.assessment.specs.Days.{Rules, both}
 use Rattle.assessment.specs.Records.{bids_after}
@@ -8,16 +8,15 @@ use Rattle.assessment.specs.declared.trade_month.TradeMonth.{TradeMonth}
 use Rattle.assessment.specs.declared.submission.HourBids.{HourBids}
 use Rattle.assessment.specs.declared.submission.Showing.{Showing}
 use Rattle.assessment.specs.declared.submission.DaySubmission.{DaySubmission}
-use Rattle.assessment.specs.declared.day_result.DayRow.{DayRow}
-use Rattle.assessment.specs.declared.day_result.DayRow.TheVariants as row
+use Rattle.assessment.specs.Figures.{DayRow}
 use Rattle.fund.specs.BalanceBook.{balance_book, no_money}
 use Rattle.fund.specs.Balances.{Balances, limit}
 use Rattle.fund.specs.Meaning.{FundMeaning}
 use Rattle.fund.specs.Overlay.{Overlaid, overlay_book, over}
 use Rattle.fund.specs.declared.fault.BookFault.TheVariants.{OverLimit}
-use Rattle.fund.specs.declared.per_pool.PerPool.{PerPool}
-use Rattle.fund.specs.declared.pool.Pool.{Pool}
-use Rattle.fund.specs.declared.pool.Pool.TheVariants.{Generic, Flexible}
+use Rattle.pools.specs.declared.per_pool.PerPool.{PerPool}
+use Rattle.pools.specs.declared.pool.Pool.{Pool}
+use Rattle.pools.specs.declared.pool.Pool.TheVariants.{Generic, Flexible}
 use Rattle.settlement.specs.Closing.{fund_of, lines_closed, pools_closed, month_posted}
 use Rattle.settlement.specs.Opening.{started, opened}
 use Rattle.settlement.specs.Recording.{place_of, figures_of}
@@ -33,7 +32,7 @@ use Rattle.statement.specs.Answers.{require, and_then}
 use Rattle.statement.specs.Files.{Records, records_of, RosterPart, month_part, roster_from, reader_fault, settlement_fault}
 use Rattle.statement.specs.Reading.{as_day}
 use Rattle.statement.specs.declared.fault.StatementFault.{StatementFault}
-use Rattle.statement.specs.declared.records.SubmittedDay.{SubmittedDay}
+use Rattle.settlement.specs.declared.tables.SubmittedDay.{SubmittedDay}
 
 -- a number from one to another
 abbrev pub between : ℕ → ℕ → ℕ → Bool
@@ -85,8 +84,8 @@ flexible_allowed category d = not (category == 0) || d.flexible.shown == 0
 
 -- nothing is recorded in the place
 abbrev pub is_empty : DayRow → Bool
-is_empty row.Empty = true
-is_empty (row.Recorded f) = false
+is_empty None = true
+is_empty (Some f) = false
 
 -- the two rules that ship
 abbrev pub pool_rules : Rules
@@ -109,10 +108,10 @@ unfoldable pub recorded : MonthTerms → List RosterEntry → List DayRow → Su
 recorded t roster rows d =
     require (nat_lt d.at.resource (length roster)) (UnknownResource d.at)
     (require (between 1 (days_of t.month) d.at.day) (NoSuchDay d.at)
-    (require (is_empty (slice_index_or rows (place_of d.at) row.Empty)) (AlreadyRecorded d.at)
+    (require (is_empty (slice_index_or rows (place_of d.at) None)) (AlreadyRecorded d.at)
     (require (day_within d.submission) (DayOverLimit d.at)
     (require (flexible_allowed (category_of roster d.at.resource) d.submission) (FlexibleInCategory0 d.at)
-    (Ok (slice_set rows (place_of d.at) (row.Recorded (figures_of pool_rules (open_at t.month t.price) roster d.at d.submission))))))))
+    (Ok (slice_set rows (place_of d.at) (Some (figures_of pool_rules (open_at t.month t.price) roster d.at d.submission))))))))
 
 -- the day table, and the byte offset after the last record
 pub record DaysPart : Type 0 where
@@ -181,7 +180,7 @@ opens t = require (terms_within t) UnfitTerms (Ok tt)
 
 -- an empty day table
 abbrev pub no_days : List RosterEntry → List DayRow
-no_days roster = replicate (31 * length roster) row.Empty
+no_days roster = replicate (31 * length roster) None
 
 -- The month is opened once the first day has passed the reader, or at the file's end; then come the days, and the close.
 -- A fault of open is told at the month record, one of the close at the end of the records, which is the file's length.

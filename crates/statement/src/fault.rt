@@ -1,12 +1,14 @@
 // Why a month file is refused: a fault of the reader, or of the settlement, at a byte offset.
 ghost use Rattle.std.specs.Prelude.{◌≡◌};
 ghost use Rattle.statement.specs.Located.{placed};
+ghost use Rattle.statement.specs.declared.fault.MonthError.TheVariants.{Fault, OutOfMemory};
 ghost use Rattle.statement.specs.declared.fault.StatementFault.TheVariants.{Reader, Settlement};
 
 use settlement::fault::SettlementFault;
+use std::alloc::AllocError;
 
 // What is wrong with a record before it is used.
-#[derive(Clone, Copy)]
+#[derive(Clone, Copy, Debug, PartialEq, Eq)]
 pub enum ReaderFault {
     EndsInside,
     UnknownKind,
@@ -26,12 +28,11 @@ pub enum StatementFault {
     Settlement(Located<SettlementFault>),
 }
 
-// What a refusal prints: the fault's number, the letter of its layer, and the byte offset.
+// Why a month is not settled: the file has a fault, or memory ran out.
 #[derive(Clone, Copy)]
-pub struct RefusalLabel {
-    pub number: u8,
-    pub layer: char,
-    pub offset: usize,
+pub enum MonthError {
+    Fault(StatementFault),
+    OutOfMemory,
 }
 
 impl From<Located<ReaderFault>> for StatementFault {
@@ -47,6 +48,30 @@ impl From<Located<SettlementFault>> for StatementFault {
 
     fn from(e: Located<SettlementFault>) -> StatementFault {
         StatementFault::Settlement(e)
+    }
+}
+
+impl From<Located<ReaderFault>> for MonthError {
+    ghost from_gives = { λ e r. r ≡ Fault (Reader e) };
+
+    fn from(e: Located<ReaderFault>) -> MonthError {
+        MonthError::Fault(StatementFault::from(e))
+    }
+}
+
+impl From<Located<SettlementFault>> for MonthError {
+    ghost from_gives = { λ e r. r ≡ Fault (Settlement e) };
+
+    fn from(e: Located<SettlementFault>) -> MonthError {
+        MonthError::Fault(StatementFault::from(e))
+    }
+}
+
+impl From<AllocError> for MonthError {
+    ghost from_gives = { λ _ r. r ≡ OutOfMemory };
+
+    fn from(_e: AllocError) -> MonthError {
+        MonthError::OutOfMemory
     }
 }
 

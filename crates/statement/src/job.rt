@@ -1,39 +1,50 @@
-// The whole job: from the bytes of a month file to the bytes of its output.
-ghost use Rattle.std.specs.Prelude.{◌≡◌, ◌≤◌, true, ◌++◌, IfOk, OnOk};
+// The whole job: from the bytes of a month file to the bytes of its statement.
+ghost use Rattle.std.specs.Prelude.{◌≡◌, true, ◌++◌, IfOk, IfErr, OnOk};
 ghost use Rattle.statement.specs.Laws.{PrintsClose, StatementsKeepTheLaw, RefusedInOneLine, RecordsDecide, DaysInAnyOrder};
 ghost use Rattle.statement.specs.Months.{closed_of};
-ghost use Rattle.statement.specs.Printing.{pool_at, place_row, line_rows, statement_text, output, is_settled};
-ghost use Rattle.statement.specs.Text.{text};
+ghost use Rattle.statement.specs.Printing.{place_row, line_rows, statement_text, output, is_settled};
+ghost use Rattle.statement.specs.Refusals.{no_statement, RefusedBy};
+ghost use Rattle.statement.specs.declared.job.NoStatement.TheVariants.{OutOfMemory};
 
+use crate::closed_month::ClosedMonth;
+use crate::fault::MonthError;
 use crate::line::PrintedLine;
-use crate::month::{ClosedMonth, settle_month};
+use crate::month::settle_month;
 use crate::rows::{header_row, line_row, pool_row, refusal_row};
 use assessment::line::LineState;
-use fund::pool::Pool;
-use settlement::tables::LineEntry;
+use pools::pool::Pool;
+use settlement::tables::{LineEntry, pool_at};
 use std::alloc::{AllocError, Global};
 
-// What is printed, and whether the month was settled.
-#[derive(Drop)]
-pub struct Output {
-    pub bytes: Vec<u8>,
-    pub settled: bool,
+// Why a month file has no statement: it is refused, in this line, or memory ran out.
+#[derive(Debug, Drop)]
+pub enum NoStatement {
+    Refused(PrintedLine),
+    OutOfMemory,
 }
 
-// The pool of a place of the line table: generic first.
-fn pool_at(place: usize) -> Pool
-    ensures { result ≡ pool_at place }
-{
-    if place % 2 == 0 {
-        Pool::Generic
-    } else {
-        Pool::Flexible
+impl From<MonthError> for NoStatement {
+    ghost from_gives = { λ e r. r ≡ no_statement e };
+
+    fn from(e: MonthError) -> NoStatement {
+        match e {
+            MonthError::Fault(fault) => NoStatement::Refused(refusal_row(fault)),
+            MonthError::OutOfMemory => NoStatement::OutOfMemory,
+        }
+    }
+}
+
+impl From<AllocError> for NoStatement {
+    ghost from_gives = { λ _ r. r ≡ OutOfMemory };
+
+    fn from(_e: AllocError) -> NoStatement {
+        NoStatement::OutOfMemory
     }
 }
 
 // The line of a place of the line table; an empty one is not printed.
 fn place_row(place: usize, entry: &LineEntry) -> PrintedLine
-    ensures { text result ≡ place_row place entry.now }
+    ensures { result ≡ place_row place entry.now }
 {
     match entry.line.state {
         LineState::Empty => PrintedLine::empty(),
@@ -53,12 +64,11 @@ fn put_lines(out: &mut Vec<u8>, lines: &[LineEntry]) -> Result<(), AllocError>
 }
 
 fn print_month(heap: Global, month: &ClosedMonth) -> Result<Vec<u8>, AllocError>
-    requires { month.now.resources ≤ 64 }
     ensures { IfOk result (λ v. v.items ≡ statement_text (closed_of month.now)) }
 {
     let mut out = Vec::new(heap);
-    out.extend_from_slice(header_row(&month.terms).written())?;
-    put_lines(&mut out, &month.lines[0..2 * month.resources])?;
+    out.extend_from_slice(header_row(month).written())?;
+    put_lines(&mut out, &month.lines)?;
     out.extend_from_slice(pool_row(
         Pool::Generic,
         &month.pools.generic,
@@ -72,27 +82,17 @@ fn print_month(heap: Global, month: &ClosedMonth) -> Result<Vec<u8>, AllocError>
     Ok(out)
 }
 
-// The statement of a month file, or the one line of its refusal.
-pub fn settle_file(heap: Global, file: &[u8]) -> Result<Output, AllocError>
-    ensures value { IfOk result (λ o. (o.bytes.items ≡ output file.now) × (o.settled ≡ is_settled file.now)) }
-    ensures closed { IfOk result (λ o. o.settled ≡ true → PrintsClose file.now o.bytes.items) }
+// The statement of a month file.
+#[tactic(auto, using(crate::proofs::Accounted::statements_keep_the_law, crate::proofs::Lawful::refused_in_one_line, crate::proofs::Lawful::same_output, crate::proofs::Lawful::same_settled, crate::proofs::Reordered::days_in_any_order))]
+pub fn settle_file(heap: Global, file: &[u8]) -> Result<Vec<u8>, NoStatement>
+    ensures settled { IfOk result (λ v. (is_settled file.now ≡ true) × (v.items ≡ output file.now)) }
+    ensures refused { IfErr result (RefusedBy file.now) }
+    ensures closed { IfOk result (λ v. PrintsClose file.now v.items) }
     ensures law { StatementsKeepTheLaw }
     ensures one_line { RefusedInOneLine }
     ensures records { RecordsDecide }
     ensures order { DaysInAnyOrder }
 {
-    match settle_month(file) {
-        Ok(month) => Ok(Output {
-            bytes: print_month(heap, &month)?,
-            settled: true,
-        }),
-        Err(fault) => {
-            let mut bytes = Vec::new(heap);
-            bytes.extend_from_slice(refusal_row(fault).written())?;
-            Ok(Output {
-                bytes,
-                settled: false,
-            })
-        }
-    }
+    let month = settle_month(heap, file)?;
+    Ok(print_month(heap, &month)?)
 }

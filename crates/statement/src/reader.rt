@@ -1,14 +1,15 @@
 // Reads the records of a month file. Every field is a 32-bit word, most significant byte first.
 ghost use Rattle.std.specs.Prelude.{◌≡◌, ◌+◌, ◌≤◌, length, IfOk, OnOk};
-ghost use Rattle.statement.specs.Layout.{word_at, hours_at, month_of, resource_of, day_of, record_of, size_of};
+ghost use Rattle.statement.specs.Layout.{word_at, first_words, hours_told, month_of, resource_of, day_of, record_of, size_of};
 ghost use Rattle.statement.specs.Reading.{as_month, as_resource, as_day};
 
 use crate::fault::ReaderFault;
-use crate::records::{FileRecord, NumberedResource, SubmittedDay};
+use crate::records::{FileRecord, NumberedResource};
 use assessment::submission::{Bid, DaySubmission, HourBids, Showing};
 use assessment::trade_month::TradeMonth;
 use settlement::fault::ResourceDay;
-use settlement::tables::{MonthTerms, RosterEntry};
+use settlement::tables::{MonthTerms, RosterEntry, SubmittedDay};
+use std::array;
 
 // How many bytes each kind of record takes, its first word among them.
 pub const MONTH_BYTES: usize = 36;
@@ -17,10 +18,7 @@ pub const RESOURCE_BYTES: usize = 16;
 
 pub const DAY_BYTES: usize = 412;
 
-const NO_BID: Bid = Bid {
-    economic: 0,
-    self_scheduled: 0,
-};
+const WORD_BYTES: usize = 4;
 
 fn word(bytes: &[u8], at: usize) -> u32
     requires { at + 4 ≤ length bytes.now }
@@ -29,48 +27,57 @@ fn word(bytes: &[u8], at: usize) -> u32
     u32::from_be_bytes([bytes[at], bytes[at + 1], bytes[at + 2], bytes[at + 3]])
 }
 
-fn hours(bytes: &[u8], at: usize) -> [HourBids; 24]
-    requires { at + 384 ≤ length bytes.now }
-    ensures { result ≡ hours_at bytes.now at }
+// The words that the bytes begin with; a file that has fewer ends inside its record.
+fn words<const N: usize>(bytes: &[u8]) -> Result<[u32; N], ReaderFault>
+    ensures { result ≡ first_words N bytes.now }
 {
-    let mut hours = [HourBids {
-        day_ahead: NO_BID,
-        real_time: NO_BID,
-    }; 24];
-    for i in 0..24 {
-        let from = at + 16 * i;
-        hours[i] = HourBids {
-            day_ahead: Bid {
-                economic: word(bytes, from),
-                self_scheduled: word(bytes, from + 4),
-            },
-            real_time: Bid {
-                economic: word(bytes, from + 8),
-                self_scheduled: word(bytes, from + 12),
-            },
-        };
+    if bytes.len() / WORD_BYTES < N {
+        return Err(ReaderFault::EndsInside);
     }
-    hours
+    Ok(array::from_fn(|i| word(bytes, WORD_BYTES * i)))
+}
+
+// Four words an hour.
+fn hours(bids: &[u32; 96]) -> [HourBids; 24]
+    ensures { result ≡ hours_told bids.now }
+{
+    array::from_fn(|hour| HourBids {
+        day_ahead: Bid {
+            economic: bids[4 * hour],
+            self_scheduled: bids[4 * hour + 1],
+        },
+        real_time: Bid {
+            economic: bids[4 * hour + 2],
+            self_scheduled: bids[4 * hour + 3],
+        },
+    })
 }
 
 fn read_month(rest: &[u8]) -> Result<FileRecord, ReaderFault>
     ensures value { result ≡ month_of rest.now }
     ensures within { IfOk result (λ x. size_of x ≤ 4 + length rest.now) }
 {
-    if rest.len() < 32 {
-        return Err(ReaderFault::EndsInside);
-    }
+    let [
+        year,
+        month,
+        holidays,
+        generic_start,
+        category2_start,
+        category3_start,
+        standing,
+        price,
+    ] = words::<8>(rest)?;
     Ok(FileRecord::Month(MonthTerms {
         month: TradeMonth {
-            year: word(rest, 0),
-            month: word(rest, 4),
-            holidays: word(rest, 8),
-            generic_start: word(rest, 12),
-            category2_start: word(rest, 16),
-            category3_start: word(rest, 20),
+            year,
+            month,
+            holidays,
+            generic_start,
+            category2_start,
+            category3_start,
         },
-        standing: word(rest, 24),
-        price: word(rest, 28),
+        standing,
+        price,
     }))
 }
 
@@ -78,14 +85,12 @@ fn read_resource(rest: &[u8]) -> Result<FileRecord, ReaderFault>
     ensures value { result ≡ resource_of rest.now }
     ensures within { IfOk result (λ x. size_of x ≤ 4 + length rest.now) }
 {
-    if rest.len() < 12 {
-        return Err(ReaderFault::EndsInside);
-    }
+    let [number, category, identifier] = words::<3>(rest)?;
     Ok(FileRecord::Resource(NumberedResource {
-        number: word(rest, 0),
+        number,
         entry: RosterEntry {
-            category: word(rest, 4),
-            identifier: word(rest, 8),
+            category,
+            identifier,
         },
     }))
 }
@@ -94,24 +99,27 @@ fn read_day(rest: &[u8]) -> Result<FileRecord, ReaderFault>
     ensures value { result ≡ day_of rest.now }
     ensures within { IfOk result (λ x. size_of x ≤ 4 + length rest.now) }
 {
-    if rest.len() < 408 {
-        return Err(ReaderFault::EndsInside);
-    }
+    let [
+        resource,
+        day,
+        generic_shown,
+        flexible_shown,
+        generic_exempt,
+        flexible_exempt,
+    ] = words::<6>(rest)?;
+    let bids = words::<96>(&rest[24..])?;
     Ok(FileRecord::Day(SubmittedDay {
-        at: ResourceDay {
-            resource: word(rest, 0),
-            day: word(rest, 4),
-        },
+        at: ResourceDay { resource, day },
         submission: DaySubmission {
             generic: Showing {
-                shown: word(rest, 8),
-                exempt: word(rest, 16),
+                shown: generic_shown,
+                exempt: generic_exempt,
             },
             flexible: Showing {
-                shown: word(rest, 12),
-                exempt: word(rest, 20),
+                shown: flexible_shown,
+                exempt: flexible_exempt,
             },
-            hours: hours(rest, 24),
+            hours: hours(&bids),
         },
     }))
 }

@@ -1,18 +1,10 @@
 // The records of a month file: plain words, not yet checked.
-use assessment::submission::DaySubmission;
-use settlement::fault::ResourceDay;
-use settlement::tables::{MonthTerms, RosterEntry};
+use settlement::tables::{MonthTerms, RosterEntry, SubmittedDay};
 
 #[derive(Clone, Copy)]
 pub struct NumberedResource {
     pub number: u32,
     pub entry: RosterEntry,
-}
-
-#[derive(Clone, Copy)]
-pub struct SubmittedDay {
-    pub at: ResourceDay,
-    pub submission: DaySubmission,
 }
 
 #[derive(Clone, Copy)]

@@ -1,16 +1,23 @@
 // The resources of a month file: up to 64, numbered from 0 in their order.
-ghost use Rattle.std.specs.Prelude.{◌≡◌, ℕ, ◌<◌, ◌≤◌, length};
-ghost use Rattle.settlement.specs.Tables.{category_of};
+ghost use Rattle.std.specs.Prelude.{◌≤◌, List, length, vec_capacity};
+ghost use Rattle.settlement.specs.Tables.{RosterFits};
+ghost use Rattle.settlement.specs.declared.tables.RosterEntry.{RosterEntry};
 
 use settlement::tables::RosterEntry;
+use std::marker::Model;
 
 mod entries;
 
-#[derive(Clone, Copy)]
+#[derive(Drop)]
 pub(crate) struct Roster {
-    entries: [RosterEntry; 64],
-    count: usize,
-    ghost sized: { length entries ≡ 64 },
-    ghost within: { count ≤ 64 },
-    ghost categories: { (i : ℕ) → i < count → category_of entries i ≤ 3 },
+    entries: Vec<RosterEntry>,
+}
+
+// Contracts see the resources. There is always room for 64, so that only a 65th is refused.
+impl Model for Roster {
+    ghost Value = { List RosterEntry };
+
+    ghost view = { λ r. r.entries.items };
+
+    ghost invariant = { λ r. (length r.entries.items ≤ 64) × RosterFits r.entries.items × (64 ≤ vec_capacity r.entries) };
 }

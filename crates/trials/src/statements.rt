@@ -1,5 +1,6 @@
 // The smallest month files and their outputs. Longer files are run by the program `vectors`.
-use statement::job::settle_file;
+use statement::job::{NoStatement, settle_file};
+use std::alloc::AllocError;
 use std::process::Abort;
 use std::test::Fail;
 
@@ -15,9 +16,17 @@ fn gives(
     settled: bool,
     expected: &[u8],
 ) -> Result<(), Fail> {
-    let output = settle_file(rt.alloc(), file)?;
-    assert_eq!(rt; output.settled, settled);
-    assert!(rt; output.bytes.as_slice() == expected);
+    match settle_file(rt.alloc(), file) {
+        Ok(statement) => {
+            assert!(rt; settled);
+            assert!(rt; statement.as_slice() == expected);
+        }
+        Err(NoStatement::Refused(line)) => {
+            assert!(rt; !settled);
+            assert!(rt; line.written() == expected);
+        }
+        Err(NoStatement::OutOfMemory) => return Err(Fail::from(AllocError)),
+    }
     Ok(())
 }
 

@@ -3,7 +3,8 @@
 #![tactic(auto)]
 
 use anyhow::anyhow;
-use statement::job::settle_file;
+use statement::job::{NoStatement, settle_file};
+use std::alloc::AllocError;
 use std::fs;
 
 // How many files were run, and how many of them came out as expected.
@@ -29,11 +30,15 @@ impl Tally {
 fn run_file(rt: &HostRuntime, name: &str) -> anyhow::Result<bool> {
     let file = fs::read(rt, format!(in rt.alloc(); "{name}.month")?)?;
     let expected = fs::read(rt, format!(in rt.alloc(); "{name}.statement")?)?;
-    let output = settle_file(rt.alloc(), file.as_slice())?;
-    let agrees = output.bytes.as_slice() == expected.as_slice();
-    let outcome = if output.settled { "settled" } else { "refused" };
+    let answer = settle_file(rt.alloc(), file.as_slice());
+    let (outcome, output) = match &answer {
+        Ok(statement) => ("settled", statement.as_slice()),
+        Err(NoStatement::Refused(line)) => ("refused", line.written()),
+        Err(NoStatement::OutOfMemory) => return Err(AllocError.into()),
+    };
+    let agrees = output == expected.as_slice();
     let verdict = if agrees { "as expected" } else { "DIFFERS" };
-    let bytes = output.bytes.len();
+    let bytes = output.len();
     println!(rt; "{name}: {outcome}, {bytes} bytes, {verdict}")?;
     Ok(agrees)
 }

@@ -1,12 +1,12 @@
 // What postings do to one balance.
-ghost use Rattle.std.specs.Prelude.{◌≡◌, ◌+◌, ◌-◌, ◌<◌, ◌≤◌, MatchResult};
+ghost use Rattle.std.specs.Prelude.{◌≡◌, ◌+◌, ◌-◌, ◌≤◌, ◌↔◌, IsOk, OnOk, OnErr, IfErr};
 ghost use Rattle.fund.specs.Balances.{limit};
 ghost use Rattle.fund.specs.declared.fault.BookFault.TheVariants.{OverLimit, AboveBalance};
 
 use crate::balance::Balance;
 use crate::book::LIMIT;
 use crate::fault::BookFault;
-use crate::pool::Pool;
+use pools::pool::Pool;
 
 impl Balance {
     pub(crate) fn new(cents: u64) -> Balance
@@ -17,14 +17,18 @@ impl Balance {
     }
 
     pub(crate) fn cents(self) -> u64
-        ensures { (result ≡ self.cents) × (result ≤ limit) }
+        ensures value { result ≡ self.cents }
+        ensures within { result ≤ limit }
     {
         self.cents
     }
 
     // Adds the amount, unless the balance would pass the limit.
     pub(crate) fn post_in(&mut self, pool: Pool, amount: u64) -> Result<(), BookFault>
-        ensures { MatchResult result (λ _. (self.old.cents + amount ≤ limit) × (self.new.cents ≡ self.old.cents + amount)) (λ e. (e ≡ OverLimit pool) × (limit < self.old.cents + amount) × (self.new ≡ self.old)) }
+        ensures taken { IsOk result ↔ (self.old.cents + amount ≤ limit) }
+        ensures raised { OnOk result (self.new.cents ≡ self.old.cents + amount) }
+        ensures fault { IfErr result (λ e. e ≡ OverLimit pool) }
+        ensures unchanged { OnErr result (self.new ≡ self.old) }
     {
         if amount > LIMIT - self.cents {
             return Err(BookFault::OverLimit(pool));
@@ -35,7 +39,10 @@ impl Balance {
 
     // Takes the amount off, unless it is above the balance.
     pub(crate) fn post_out(&mut self, pool: Pool, amount: u64) -> Result<(), BookFault>
-        ensures { MatchResult result (λ _. (amount ≤ self.old.cents) × (self.new.cents ≡ self.old.cents - amount)) (λ e. (e ≡ AboveBalance pool) × (self.old.cents < amount) × (self.new ≡ self.old)) }
+        ensures taken { IsOk result ↔ (amount ≤ self.old.cents) }
+        ensures lowered { OnOk result (self.new.cents ≡ self.old.cents - amount) }
+        ensures fault { IfErr result (λ e. e ≡ AboveBalance pool) }
+        ensures unchanged { OnErr result (self.new ≡ self.old) }
     {
         if amount > self.cents {
             return Err(BookFault::AboveBalance(pool));

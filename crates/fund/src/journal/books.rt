@@ -1,18 +1,19 @@
 // `Journal` as a fund book.
-ghost use Rattle.std.specs.Prelude.{◌≡◌, ◌≤◌, None, vec_len, MatchResult};
+ghost use Rattle.std.specs.Prelude.{◌≡◌, ◌≤◌, ◌↔◌, None, IsOk, IfOk, IfErr, vec_len};
 ghost use Rattle.fund.specs.Balances.{limit};
 ghost use Rattle.fund.specs.Faults.{label, labelled};
-ghost use Rattle.fund.specs.Postings.{balance};
-ghost use Rattle.fund.specs.Journal.{Fit, Pages, PagesSound, pages_of, blank_pages, journal_book, with_posting, with_brought, pages_from};
-ghost use Rattle.fund.specs.Pages.{journal_lawful, balance_le, sound_of};
-ghost use Rattle.std.proofs.Common.{rules, arith};
+ghost use Rattle.fund.specs.Postings.{posted, balance};
+ghost use Rattle.fund.specs.Pages.{Fit, Pages, PagesSound, blank_pages, posting, with_posting, with_brought};
+ghost use Rattle.fund.specs.Journal.{pages_of, journal_book};
+ghost use Rattle.fund.specs.JournalLemmas.{journal_lawful, balance_le};
 
 use crate::book::{FundBook, LIMIT};
 use crate::fault::BookFault;
 use crate::journal::{Journal, RefusedPlaces};
-use crate::pool::{Pool, Standing};
 use crate::posting::{Direction, Posting, Side};
+use crate::standing::Standing;
 use crate::total::total;
+use pools::pool::Pool;
 
 const FEWEST: usize = 8;
 
@@ -20,54 +21,58 @@ const MOST: usize = 65_536;
 
 impl Journal {
     // An empty journal in the places handed in, 8 to 65,536 of them; any other number comes back with the fault.
-    pub fn over(places: Vec<Posting>) -> Result<Journal, RefusedPlaces>
-        ensures { MatchResult result (λ j. Fit (vec_len places) × (pages_of j ≡ blank_pages (vec_len places))) (λ e. (Fit (vec_len places) → ⊥) × (label e.fault ≡ labelled 30 None) × (e.places ≡ places)) }
+    pub fn over(mut places: Vec<Posting>) -> Result<Journal, RefusedPlaces>
+        ensures fits { IsOk result ↔ Fit (vec_len places) }
+        ensures blank { IfOk result (λ j. pages_of j ≡ blank_pages (vec_len places)) }
+        ensures fault { IfErr result (λ e. label e.fault ≡ labelled 30 None) }
+        ensures back { IfErr result (λ e. e.places ≡ places) }
     {
-        if places.len() < FEWEST || places.len() > MOST {
+        let size = places.len();
+        if !(FEWEST..=MOST).contains(&size) {
             return Err(RefusedPlaces {
                 fault: BookFault::UnfitPlaces,
                 places,
             });
         }
-        Ok(Journal { places, used: 0 })
+        places.clear();
+        Ok(Journal {
+            postings: places,
+            size,
+        })
     }
 
     // The postings since the journal was last ruled off, what was brought forward first.
     pub fn postings(&self) -> &[Posting]
         ensures { result.now ≡ (pages_of self.now).postings }
     {
-        &self.places.as_slice()[0..self.used]
+        &self.postings
+    }
+
+    // What the postings of one direction in the pool come to.
+    fn posted(&self, direction: Direction, pool: Pool) -> u128
+        ensures { result ≡ posted direction pool (pages_of self.now).postings }
+    {
+        total(&self.postings, Side { pool, direction })
     }
 
     // What came into the pool less what went out of it.
     fn balance(&self, pool: Pool) -> u64
-        ensures { (result ≡ balance (pages_of self.now).postings pool) × (result ≤ limit) }
+        ensures value { result ≡ balance (pages_of self.now).postings pool }
+        ensures within { result ≤ limit }
     {
-        let postings = self.postings();
-        let came_in = total(
-            postings,
-            Side {
-                pool,
-                direction: Direction::In,
-            },
-        );
-        let went_out = total(
-            postings,
-            Side {
-                pool,
-                direction: Direction::Out,
-            },
-        );
-        (came_in - went_out) as u64
+        (self.posted(Direction::In, pool) - self.posted(Direction::Out, pool)) as u64
     }
 
-    // Writes the posting into the first free place.
-    fn write(&mut self, posting: Posting)
-        requires { PagesSound (with_posting (pages_of self.old) posting) }
-        ensures { pages_of self.new ≡ with_posting (pages_of self.old) posting }
+    // Writes a posting into the first free place.
+    fn write(&mut self, direction: Direction, pool: Pool, amount: u64)
+        requires { PagesSound (with_posting (pages_of self.old) (posting direction pool amount)) }
+        ensures { pages_of self.new ≡ with_posting (pages_of self.old) (posting direction pool amount) }
     {
-        self.places[self.used] = posting;
-        self.used += 1;
+        self.postings.push_reserved(Posting {
+            pool,
+            direction,
+            amount,
+        });
     }
 
     // Writes what is brought forward of one balance, if that is anything.
@@ -76,22 +81,8 @@ impl Journal {
         ensures { pages_of self.new ≡ with_brought (pages_of self.old) pool amount }
     {
         if amount > 0 {
-            self.write(Posting {
-                pool,
-                direction: Direction::In,
-                amount,
-            });
+            self.write(Direction::In, pool, amount);
         }
-    }
-
-    // Empties the journal, and brings the two balances forward.
-    fn start_from(&mut self, generic: u64, flexible: u64)
-        requires { (generic ≤ limit) × (flexible ≤ limit) }
-        ensures { pages_of self.new ≡ pages_from (pages_of self.old).places generic flexible }
-    {
-        self.used = 0;
-        self.bring_forward(Pool::Generic, generic);
-        self.bring_forward(Pool::Flexible, flexible);
     }
 }
 
@@ -106,13 +97,13 @@ impl FundBook for Journal {
 
     ghost lawful = { journal_lawful };
 
-    ghost real = { first_of (Prim.search rules, Prim.grind (arith, Self.row.coded.inj)) };
+    ghost real = { λ b. b.sound };
 
-    ghost sized = { first_of (Prim.search rules, Prim.grind (arith, Self.row.coded.inj)) };
+    ghost sized = { λ b. b.sound.sized.0 };
 
-    ghost shown_within = { λ b q. balance_le (sound_of b) q };
+    ghost shown_within = { λ b. balance_le b.sound };
 
-    ghost binding_within = { λ b q. balance_le (sound_of b) q };
+    ghost binding_within = { λ b. balance_le b.sound };
 
     fn binding(&self, pool: Pool) -> u64 {
         self.balance(pool)
@@ -127,11 +118,11 @@ impl FundBook for Journal {
     }
 
     fn size(&self) -> usize {
-        self.places.len()
+        self.size
     }
 
     fn free_places(&self) -> usize {
-        self.places.len() - self.used
+        self.size - self.postings.len()
     }
 
     fn takes_advisory(&self) -> bool {
@@ -152,11 +143,7 @@ impl FundBook for Journal {
         if amount > LIMIT - self.balance(pool) {
             return Err(BookFault::OverLimit(pool));
         }
-        self.write(Posting {
-            pool,
-            direction: Direction::In,
-            amount,
-        });
+        self.write(Direction::In, pool, amount);
         Ok(())
     }
 
@@ -167,17 +154,15 @@ impl FundBook for Journal {
         if amount > self.balance(pool) {
             return Err(BookFault::AboveBalance(pool));
         }
-        self.write(Posting {
-            pool,
-            direction: Direction::Out,
-            amount,
-        });
+        self.write(Direction::Out, pool, amount);
         Ok(())
     }
 
     fn rule_off(&mut self) {
         let generic = self.balance(Pool::Generic);
         let flexible = self.balance(Pool::Flexible);
-        self.start_from(generic, flexible);
+        self.postings.clear();
+        self.bring_forward(Pool::Generic, generic);
+        self.bring_forward(Pool::Flexible, flexible);
     }
 }

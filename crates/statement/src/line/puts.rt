@@ -1,13 +1,11 @@
 // What is put at the end of a line.
 ghost use Rattle.std.specs.Prelude.{◌≡◌, ◌+◌, ◌<◌, ◌≤◌, [], ◌∷◌, ◌++◌, length, decimal};
-ghost use Rattle.statement.specs.Text.{text, size};
 
 use super::PrintedLine;
 
 impl PrintedLine {
     pub(crate) fn empty() -> PrintedLine
-        ensures text { text result ≡ [] }
-        ensures size { size result ≡ 0 }
+        ensures { result ≡ [] }
     {
         PrintedLine {
             bytes: [0; 96],
@@ -17,25 +15,22 @@ impl PrintedLine {
 
     // What is written so far.
     pub fn written(&self) -> &[u8]
-        ensures { result.now ≡ text self.now }
+        ensures { result.now ≡ self.now }
     {
         &self.bytes[0..self.len]
     }
 
     pub(crate) fn put_byte(&mut self, b: u8)
-        requires { size self.old < 96 }
-        ensures text { text self.new ≡ text self.old ++ b ∷ [] }
-        ensures size { size self.new ≡ size self.old + 1 }
+        requires { length self.old < 96 }
+        ensures { self.new ≡ self.old ++ b ∷ [] }
     {
-        let at = self.len;
-        self.bytes[at] = b;
-        self.len = at + 1;
+        self.bytes[self.len] = b;
+        self.len += 1;
     }
 
     pub(crate) fn put_text(&mut self, more: &[u8])
-        requires { size self.old + length more.now ≤ 96 }
-        ensures text { text self.new ≡ text self.old ++ more.now }
-        ensures size { size self.new ≡ size self.old + length more.now }
+        requires { length self.old + length more.now ≤ 96 }
+        ensures { self.new ≡ self.old ++ more.now }
     {
         for b in more {
             self.put_byte(*b);
@@ -43,9 +38,8 @@ impl PrintedLine {
     }
 
     fn put_digits(&mut self, n: u64)
-        requires { size self.old + length (decimal n) ≤ 96 }
-        ensures text { text self.new ≡ text self.old ++ decimal n }
-        ensures size { size self.new ≡ size self.old + length (decimal n) }
+        requires { length self.old + length (decimal n) ≤ 96 }
+        ensures { self.new ≡ self.old ++ decimal n }
     {
         if n >= 10 {
             self.put_digits(n / 10);
@@ -55,9 +49,9 @@ impl PrintedLine {
 
     // The number in decimal, which takes at most 20 bytes.
     pub(crate) fn put_decimal(&mut self, n: u64)
-        requires { size self.old + 20 ≤ 96 }
-        ensures text { text self.new ≡ text self.old ++ decimal n }
-        ensures size { size self.new ≤ size self.old + 20 }
+        requires { length self.old + 20 ≤ 96 }
+        ensures puts { self.new ≡ self.old ++ decimal n }
+        ensures room { length self.new ≤ length self.old + 20 }
     {
         self.put_digits(n);
     }

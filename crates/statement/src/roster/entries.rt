@@ -1,50 +1,51 @@
 // A roster that grows by one resource at a time.
-ghost use Rattle.std.specs.Prelude.{◌≡◌, [], length};
+ghost use Rattle.std.specs.Prelude.{◌≡◌, ◌≤◌, [], length, IfOk};
 ghost use Rattle.settlement.specs.Tables.{RosterFits};
 ghost use Rattle.statement.specs.Answers.{Leaves};
-ghost use Rattle.statement.specs.Rosters.{resources, enrolled};
+ghost use Rattle.statement.specs.Rosters.{days_offset, enrolled};
 
 use super::Roster;
+use crate::reader::{MONTH_BYTES, RESOURCE_BYTES};
 use settlement::fault::SettlementFault;
 use settlement::tables::RosterEntry;
+use std::alloc::{AllocError, Global};
 
 const MOST_RESOURCES: usize = 64;
 
 const MOST_CATEGORY: u32 = 3;
 
-const NOBODY: RosterEntry = RosterEntry {
-    identifier: 0,
-    category: 0,
-};
-
 impl Roster {
-    pub(crate) fn empty() -> Roster
-        ensures { resources result ≡ [] }
+    pub(crate) fn empty(heap: Global) -> Result<Roster, AllocError>
+        ensures { IfOk result (λ r. r ≡ []) }
     {
-        Roster {
-            entries: [NOBODY; 64],
-            count: 0,
-        }
+        Ok(Roster {
+            entries: Vec::with_capacity(heap, MOST_RESOURCES)?,
+        })
     }
 
     pub(crate) fn entries(&self) -> &[RosterEntry]
-        ensures value { result.now ≡ resources self.now }
-        ensures count { length result.now ≡ self.now.count }
-        ensures fits { RosterFits result.now }
+        ensures value { result.now ≡ self.now }
+        ensures within { length self.now ≤ 64 }
+        ensures fits { RosterFits self.now }
     {
-        &self.entries[0..self.count]
+        self.entries.as_slice()
+    }
+
+    // The byte offset after the resources.
+    pub(crate) fn end(&self) -> usize
+        ensures { result ≡ days_offset self.now }
+    {
+        MONTH_BYTES + RESOURCE_BYTES * self.entries.len()
     }
 
     // The next resource; a 65th, or a category above 3, is refused.
     pub(crate) fn push(&mut self, entry: RosterEntry) -> Result<(), SettlementFault>
-        ensures { Leaves result (resources self.new) (enrolled (resources self.old) entry) }
+        ensures { Leaves result self.new (enrolled self.old entry) }
     {
-        let count = self.count;
-        if count >= MOST_RESOURCES || entry.category > MOST_CATEGORY {
+        if self.entries.len() >= MOST_RESOURCES || entry.category > MOST_CATEGORY {
             return Err(SettlementFault::UnfitTables);
         }
-        self.entries[count] = entry;
-        self.count = count + 1;
+        self.entries.push(entry).unwrap();
         Ok(())
     }
 }

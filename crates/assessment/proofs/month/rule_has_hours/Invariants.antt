@@ -1,7 +1,7 @@
-use Rattle.std.proofs.Common.{◌≡◌}
+use Rattle.std.proofs.Common.{◌≡◌, ◌-◌}
 use Rattle.assessment.specs.Sums.{count_to}
 use Rattle.assessment.proofs.month.rule_has_hours.Given as goal
 
-abbrev pub invariant-loop-passed : goal.invariant-loop-passed
-invariant-loop-passed g l =
-    count_to ((g.R.AvailabilityRule.means l.rule).assesses l.day.settings.month l.category.number l.day.day) l.passed ≡ 0
+abbrev pub invariant-loop-hour : goal.invariant-loop-hour
+invariant-loop-hour g l =
+    count_to ((g.R.AvailabilityRule.means l.rule).assesses l.day.settings.month l.category.number l.day.day) (l.hour - 1) ≡ 0

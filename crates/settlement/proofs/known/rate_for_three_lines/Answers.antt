@@ -5,4 +5,4 @@ use Rattle.settlement.proofs.known.rate_for_three_lines.Goals as goal
 
 pub returns : goal.returns
 unfolding sum_to day_figures
-returns c = record { figures = refl; is = c.rate_for.ensures.is }
+returns c = record { figures = refl; is = c.rate_for.ensures }

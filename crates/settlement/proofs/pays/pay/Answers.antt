@@ -9,21 +9,19 @@ pub paid-requires : goal.paid-requires
 paid-requires c =
     let i = c.loop-i.i in
     let lt : i < length c.args.entries.now = omega arith in
-    let rest = at_rest (paid_entry c.args.rate) c.args.entries.now c.loop-i.entries i no_line lt c.loop-i.invariant in (
-      c.requires.1.0,
-      (
-        subst (λ (e : LineEntry). e.line.quantity ≤ 58590000000) (sym rest) (c.requires.1.1 i lt),
-        c.eligible_quantities-quantities.ensures.eligible i lt ∙ ap (line_tells EligibleQuantity) (sym rest),
-      ),
-    )
+    let rest = at_rest (paid_entry c.args.rate.cents) c.args.entries.now c.loop-i.entries i no_line lt c.loop-i.invariant in
+    record {
+      small = subst (λ (e : LineEntry). e.line.quantity ≤ 58590000000) (sym rest) (c.requires.small i lt);
+      eligible = c.eligible_quantities-quantities.ensures.eligible i lt ∙ ap (line_tells EligibleQuantity) (sym rest);
+    }
 
 pub loop-i-preserved : goal.loop-i-preserved
 loop-i-preserved c =
     let lt : c.loop-i.i < length c.args.entries.now = omega arith in
     let lt' : c.loop-i.i < length c.loop-i.entries = omega arith in
-    over_more (paid_entry c.args.rate) c.args.entries.now c.loop-i.entries c.loop-i.i no_line _ lt lt' c.loop-i.invariant c.paid.ensures
+    over_more (paid_entry c.args.rate.cents) c.args.entries.now c.loop-i.entries c.loop-i.i no_line _ lt lt' c.loop-i.invariant c.paid.ensures
 
 pub returns : goal.returns
 returns c =
     let done : length c.args.entries.now ≤ c.loop-i.i = omega arith in
-    over_all (paid_entry c.args.rate) c.args.entries.now c.loop-i.entries c.loop-i.i done c.loop-i.invariant
+    over_all (paid_entry c.args.rate.cents) c.args.entries.now c.loop-i.entries c.loop-i.i done c.loop-i.invariant

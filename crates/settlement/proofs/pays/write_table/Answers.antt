@@ -1,21 +1,15 @@
-use Rattle.std.proofs.Common.{◌+◌, ◌*◌, ◌<◌, ◌≤◌, length, get_or, set, ◌∙◌, arith, length-set, rules}
-use Rattle.settlement.specs.Closing.{no_line}
-use Rattle.settlement.proofs.Writing.{two_more, table_all}
+use Rattle.std.proofs.Common.{◌*◌, ◌<◌, ◌≤◌, length, arith, ◌∙◌}
+use Rattle.settlement.specs.Closing.{line_place}
+use Rattle.settlement.proofs.Working.{filled_more}
+use Rattle.settlement.proofs.Writing.{table_all}
 use Rattle.settlement.proofs.pays.write_table.Goals as goal
 
-pub loop-i-preserved : goal.loop-i-preserved
-loop-i-preserved c =
-    let xs = c.loop-i.lines in
-    let i = c.loop-i.i in
-    let g = get_or c.args.generic.now i no_line in
-    let f = get_or c.args.flexible.now i no_line in
-    let room : 2 * i + 1 < length xs = omega arith in (
-      length-set (set xs (2 * i) g) (2 * i + 1) f ∙ length-set xs (2 * i) g ∙ c.loop-i.invariant.0,
-      two_more c.args.generic.now c.args.flexible.now xs i room c.loop-i.invariant.1,
-    )
+pub loop-place-preserved : goal.loop-place-preserved
+loop-place-preserved c =
+    let lt : c.loop-place.place < length c.loop-place.lines = omega (arith, c.loop-place.auto.lines) in
+    filled_more (line_place c.args.generic.now c.args.flexible.now) c.loop-place.lines c.loop-place.place _ lt c.line_for.ensures c.loop-place.invariant
 
 pub returns : goal.returns
 returns c =
-    let n = length c.args.generic.now in
-    let done : n ≤ c.loop-i.i = search rules in
-    table_all c.args.generic.now c.args.flexible.now c.loop-i.lines n c.loop-i.i c.loop-i.invariant.0 done c.loop-i.invariant.1
+    let done : 2 * length c.args.generic.now ≤ c.loop-place.place = omega arith in
+    table_all c.args.generic.now c.args.flexible.now c.loop-place.lines (length c.args.generic.now) c.loop-place.place (c.loop-place.auto.lines ∙ c.requires.two_each) done c.loop-place.invariant

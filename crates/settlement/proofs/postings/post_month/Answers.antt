@@ -1,5 +1,5 @@
 use Rattle.std.proofs.Common.{sym, ap, ◌∙◌, subst, arith}
-use Rattle.fund.specs.declared.pool.Pool.TheVariants.{Generic, Flexible}
+use Rattle.pools.specs.declared.pool.Pool.TheVariants.{Generic, Flexible}
 use Rattle.settlement.specs.Closing.{posted, month_posted, Funded}
 use Rattle.settlement.proofs.Steps.{close_steps}
 use Rattle.settlement.proofs.postings.post_month.Goals as goal

@@ -1,6 +1,6 @@
 use Rattle.std.proofs.Common.{◌≤◌, ap, ◌∙◌, arith}
 use Rattle.fund.specs.Laws.{with_room}
-use Rattle.fund.specs.declared.pool.Pool.TheVariants.{Generic, Flexible}
+use Rattle.pools.specs.declared.pool.Pool.TheVariants.{Generic, Flexible}
 use Rattle.settlement.specs.Closing.{posted_out}
 use Rattle.settlement.proofs.Steps.{readies, taken_out}
 use Rattle.settlement.proofs.postings.post_release.Goals as goal

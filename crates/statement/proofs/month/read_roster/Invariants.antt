@@ -1,12 +1,13 @@
 use Rattle.std.proofs.Common.{◌≡◌, ◌-◌, ◌≤◌, [], length, drop}
 use Rattle.statement.specs.Files.{records_of, roster_from}
-use Rattle.statement.specs.Rosters.{resources}
+use Rattle.statement.specs.Rosters.{days_offset}
 use Rattle.statement.proofs.month.read_roster.Given as goal
 
-abbrev pub invariant-loop-at : goal.invariant-loop-at
-invariant-loop-at l =
-    (l.at ≤ length l.file)
-    × (roster_from [] 36 (records_of (drop 36 l.file)) ≡ roster_from (resources l.roster) l.at (records_of (drop l.at l.file)))
+abbrev pub invariant-loop-roster : goal.invariant-loop-roster
+invariant-loop-roster l = record {
+  within : days_offset l.roster ≤ length l.file;
+  same : roster_from [] 36 (records_of (drop 36 l.file)) ≡ roster_from l.roster (days_offset l.roster) (records_of (drop (days_offset l.roster) l.file));
+}
 
-abbrev pub decreases-loop-at : goal.decreases-loop-at
-decreases-loop-at l = length l.file - l.at
+abbrev pub decreases-loop-roster : goal.decreases-loop-roster
+decreases-loop-roster l = length l.file - days_offset l.roster

@@ -1,36 +1,57 @@
-use Rattle.std.proofs.Common.{◌≤◌, length, sym, ◌∙◌, arith}
-use Rattle.std.proofs.lemmas.Result.{err_from_is_err_and, IfOk-from_err, IfOk-at_ok}
+use Rattle.std.proofs.Common.{◌≤◌, length, Err, sym, ◌∙◌, arith}
+use Rattle.std.proofs.lemmas.Result.{err_from_is_err_and, IfOk-at_ok}
 use Rattle.statement.specs.Months.{roster_part, closed_of}
-use Rattle.statement.proofs.Parsed.{placed_ok, answers_ok, answers_err}
-use Rattle.statement.proofs.Wholes.{month_read, month_refused, settled_unread, settled_unlisted, settled_listed}
+use Rattle.statement.specs.Settling.{settled_from}
+use Rattle.statement.proofs.InMemory.{stops, goes_on}
+use Rattle.statement.proofs.Parsed.{placed_ok}
+use Rattle.statement.proofs.Wholes.{month_read, month_refused, settled_unread, settled_by, settled_open}
 use Rattle.statement.proofs.month.settle_month.Goals as goal
 
-pub returns-in_err-terms : goal.returns-in_err-terms
-returns-in_err-terms c =
+pub returns-in_err-terms-clause-value : goal.returns-in_err-terms-clause-value
+returns-in_err-terms-clause-value c =
     let p = err_from_is_err_and c.from_residual.result c.from_residual.ensures.1 in
-    record {
-      value = rw (p.1, p.2) (settled_unread c.args.file.now _ (month_refused c.args.file.now c.month_record.result _ c.month_record.ensures.value (sym c.at_offset.ensures ∙ c.in_err-terms.was)));
-      within = IfOk-from_err c.from_residual.result _ c.from_residual.ensures.0;
-      closed = IfOk-from_err c.from_residual.result _ c.from_residual.ensures.0;
-    }
+    rw (p.1, p.2) (settled_unread c.args.file.now _ (month_refused c.args.file.now c.month_record.result _ c.month_record.ensures.value (sym c.at_offset.ensures ∙ c.in_err-terms.was)))
 
-pub returns-in_err-read : goal.returns-in_err-read
-returns-in_err-read c =
-    let p = err_from_is_err_and c.from_residual-in_err-read.result c.from_residual-in_err-read.ensures.1 in
+pub returns-in_err-roster-clause-value : goal.returns-in_err-roster-clause-value
+returns-in_err-roster-clause-value c =
+    let p = err_from_is_err_and c.from_residual-in_err-roster.result c.from_residual-in_err-roster.ensures.1 in
+    let bs = c.args.file.now in
     let o = placed_ok c.month_record.result 0 _ (sym c.at_offset.ensures ∙ c.in_ok-terms.was) in
-    let w : 36 ≤ length c.args.file.now = IfOk-at_ok _ o c.month_record.ensures.within in
-    record {
-      value = rw (p.1, p.2) (settled_unlisted c.args.file.now c.in_ok-terms.terms _ (month_read c.args.file.now c.month_record.result c.in_ok-terms.terms (omega arith) c.month_record.ensures.value o) (answers_err (roster_part c.args.file.now) c.read_roster.result _ _ c.in_err-read.was c.read_roster.ensures.value));
-      within = IfOk-from_err c.from_residual-in_err-read.result _ c.from_residual-in_err-read.ensures.0;
-      closed = IfOk-from_err c.from_residual-in_err-read.result _ c.from_residual-in_err-read.ensures.0;
-    }
+    let w : 36 ≤ length bs = IfOk-at_ok _ o c.month_record.ensures.within in
+    let m = settled_by bs c.in_ok-terms.terms (month_read bs c.month_record.result c.in_ok-terms.terms (omega arith) c.month_record.ensures.value o) in
+    rw (p.1, p.2, m) (stops (roster_part bs) closed_of _ (λ part. settled_from c.in_ok-terms.terms part) c.read_roster.result _ c.in_err-roster.was c.read_roster.ensures.value)
 
-pub returns : goal.returns
-returns c =
+pub returns-in_err-month-clause-value : goal.returns-in_err-month-clause-value
+returns-in_err-month-clause-value c =
+    let p = err_from_is_err_and c.from_residual-in_err-month.result c.from_residual-in_err-month.ensures.1 in
+    let bs = c.args.file.now in
     let o = placed_ok c.month_record.result 0 _ (sym c.at_offset.ensures ∙ c.in_ok-terms.was) in
-    let w : 36 ≤ length c.args.file.now = IfOk-at_ok _ o c.month_record.ensures.within in
-    record {
-      value = settled_listed c.args.file.now c.in_ok-terms.terms _ closed_of c.settle_days.result (month_read c.args.file.now c.month_record.result c.in_ok-terms.terms (omega arith) c.month_record.ensures.value o) (answers_ok (roster_part c.args.file.now) c.read_roster.result _ _ c.in_ok-read.was c.read_roster.ensures.value) c.settle_days.ensures.value;
-      within = c.settle_days.ensures.within;
-      closed = c.settle_days.ensures.closed;
-    }
+    let w : 36 ≤ length bs = IfOk-at_ok _ o c.month_record.ensures.within in
+    let m = settled_by bs c.in_ok-terms.terms (month_read bs c.month_record.result c.in_ok-terms.terms (omega arith) c.month_record.ensures.value o) in
+    let s = settled_open c.in_ok-terms.terms bs c.in_ok-roster.roster in
+    rw (p.1, p.2, m) (goes_on (roster_part bs) closed_of _ (λ part. settled_from c.in_ok-terms.terms part) c.read_roster.result _ (Err c.in_err-month.field-0.0) c.in_ok-roster.was c.read_roster.ensures.value
+    (rw s (stops (λ x. x) closed_of _ _ c.open.result _ c.in_err-month.was c.open.ensures)))
+
+pub returns-in_err-record_days-clause-value : goal.returns-in_err-record_days-clause-value
+returns-in_err-record_days-clause-value c =
+    let p = err_from_is_err_and c.from_residual-in_err-record_days.result c.from_residual-in_err-record_days.ensures.1 in
+    let bs = c.args.file.now in
+    let o = placed_ok c.month_record.result 0 _ (sym c.at_offset.ensures ∙ c.in_ok-terms.was) in
+    let w : 36 ≤ length bs = IfOk-at_ok _ o c.month_record.ensures.within in
+    let m = settled_by bs c.in_ok-terms.terms (month_read bs c.month_record.result c.in_ok-terms.terms (omega arith) c.month_record.ensures.value o) in
+    let s = settled_open c.in_ok-terms.terms bs c.in_ok-roster.roster in
+    rw (p.1, p.2, m) (goes_on (roster_part bs) closed_of _ (λ part. settled_from c.in_ok-terms.terms part) c.read_roster.result _ (Err c.in_err-record_days.field-0.0) c.in_ok-roster.was c.read_roster.ensures.value
+    (rw s (goes_on (λ x. x) closed_of _ _ c.open.result _ (Err c.in_err-record_days.field-0.0) c.in_ok-month.was c.open.ensures
+    (stops _ closed_of _ _ c.record_days.result _ c.in_err-record_days.was c.record_days.ensures.value))))
+
+pub returns-clause-value : goal.returns-clause-value
+returns-clause-value c =
+    let bs = c.args.file.now in
+    let o = placed_ok c.month_record.result 0 _ (sym c.at_offset.ensures ∙ c.in_ok-terms.was) in
+    let w : 36 ≤ length bs = IfOk-at_ok _ o c.month_record.ensures.within in
+    let m = settled_by bs c.in_ok-terms.terms (month_read bs c.month_record.result c.in_ok-terms.terms (omega arith) c.month_record.ensures.value o) in
+    let s = settled_open c.in_ok-terms.terms bs c.in_ok-roster.roster in
+    let last = rw (c.record_days.ensures.same.0, c.record_days.ensures.same.1) at c.close.ensures.value in
+    rw m (goes_on (roster_part bs) closed_of _ (λ part. settled_from c.in_ok-terms.terms part) c.read_roster.result _ c.close.result c.in_ok-roster.was c.read_roster.ensures.value
+    (rw s (goes_on (λ x. x) closed_of _ _ c.open.result _ c.close.result c.in_ok-month.was c.open.ensures
+    (goes_on _ closed_of _ _ c.record_days.result _ _ c.in_ok-record_days.was c.record_days.ensures.value last))))

@@ -1,17 +1,31 @@
-use Rattle.std.proofs.Common.{◌≡◌, ◌+◌, true, false, sym, ap, ◌∙◌, arith}
-use Rattle.assessment.specs.Calendar.{is_work, works}
+use Rattle.std.proofs.Common.{◌≡◌, true, false, ◌∙◌, arith}
+use Rattle.assessment.specs.Calendar.{works}
+use Rattle.assessment.proofs.Dates.{at_day, is_work_day}
 use Rattle.assessment.proofs.Running.{sum_none, count_more}
 use Rattle.assessment.proofs.settings.MonthSettings.work_days.Goals as goal
-use Rattle.assessment.proofs.settings.MonthSettings.work_days.Goals.{in-WorkDay, in-OffDay}
+use Rattle.assessment.proofs.settings.MonthSettings.work_days.Goals.{then-eq, else-eq}
 
-pub loop-done-init : goal.loop-done-init
-loop-done-init c = (omega (arith, sum_none), omega arith)
+pub loop-day-init : goal.loop-day-init
+loop-day-init c = (omega (arith, sum_none), omega arith)
 
-pub loop-done-preserved : goal.loop-done-preserved
-loop-done-preserved c =
-    let day = c.trade_day.result in
-    let kind : is_work day.kind ≡ works c.args.self.now.month (c.loop-done.done + 1) = cc day.kind_is in
-    elim c.match-trade_day.branch [
-      | in-WorkDay w ↦ (count_more _ c.loop-done.done c.loop-done.count _ true c.loop-done.invariant.0 (sym (ap is_work w.in-WorkDay.is) ∙ kind) w.count-is, omega (arith, w.count-is))
-      | in-OffDay w ↦ (count_more _ c.loop-done.done c.loop-done.count _ false c.loop-done.invariant.0 (sym (ap is_work w.in-OffDay.is) ∙ kind) (omega (arith, w.count-is)), omega (arith, w.count-is))
+pub loop-day-preserved : goal.loop-day-preserved
+loop-day-preserved c =
+    let d = c.trade_day.result in
+    let month = c.args.self.now.month in
+    let kind : c.eq.result ≡ works month c.loop-day.day = at_day works d _ _ _ c.trade_day.ensures.day c.trade_day.ensures.settings (c.eq.ensures ∙ is_work_day d.kind ∙ d.kind_is) in
+    let i = c.loop-day.invariant.0 in
+    elim c.if-eq.branch [
+      | then-eq w ↦ (count_more (works month) c.loop-day.day _ _ _ true c.loop-day.auto.day i (cc (w.if-eq.true, kind)) w.count-is (omega arith), omega (arith, w.count-is))
+      | else-eq w ↦ (count_more (works month) c.loop-day.day _ _ _ false c.loop-day.auto.day i (cc (w.if-eq.false, kind)) (omega (arith, w.count-is)) (omega arith), omega (arith, w.count-is))
+    ]
+
+pub returns-after-eq-clause-is : goal.returns-after-eq-clause-is
+returns-after-eq-clause-is c =
+    let d = c.trade_day.result in
+    let month = c.args.self.now.month in
+    let kind : c.eq.result ≡ works month c.loop-day.day = at_day works d _ _ _ c.trade_day.ensures.day c.trade_day.ensures.settings (c.eq.ensures ∙ is_work_day d.kind ∙ d.kind_is) in
+    let i = c.loop-day.invariant.0 in
+    elim c.if-eq.branch [
+      | then-eq w ↦ count_more (works month) c.loop-day.day _ _ _ true c.loop-day.auto.day i (cc (w.if-eq.true, kind)) w.count-is (omega arith)
+      | else-eq w ↦ count_more (works month) c.loop-day.day _ _ _ false c.loop-day.auto.day i (cc (w.if-eq.false, kind)) (omega (arith, w.count-is)) (omega arith)
     ]

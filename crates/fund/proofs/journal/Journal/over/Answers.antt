@@ -1,7 +1,6 @@
-use Rattle.std.proofs.Common.{arith}
-use Rattle.fund.specs.PostingsLemmas.{kept_none}
-use Rattle.fund.specs.declared.pool.Pool.TheVariants.{Generic, Flexible}
+use Rattle.std.proofs.Common.{arith, rules}
+use Rattle.fund.specs.JournalLemmas.{blank_sound}
 use Rattle.fund.proofs.journal.Journal.over.Goals as goal
 
 pub invariant_of-result : goal.invariant_of-result
-invariant_of-result c = record { sized = (omega arith, omega arith); fits = omega arith; generic = kept_none Generic; flexible = kept_none Flexible }
+invariant_of-result c = record { sound = rw c.clear.ensures.items (blank_sound c.len-size.result (search rules)); roomy = omega arith }

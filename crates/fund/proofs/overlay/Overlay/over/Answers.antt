@@ -1,8 +1,14 @@
-use Rattle.std.proofs.Common.{rules}
 use Rattle.fund.specs.Overlaid.{overlay_lawful, lower_stays_binding, lower_untouched}
 use Rattle.fund.proofs.overlay.Overlay.over.Goals as goal
 
-pub returns : goal.returns
-returns g c =
-    let law = g.met.B.FundBook.lawful in
-    record { made = search rules; book = overlay_lawful _ _ law; twice = overlay_lawful _ _ (overlay_lawful _ _ law); binding = lower_stays_binding _ _ law; untouched = lower_untouched g.B.FundBook.means }
+pub returns-clause-book : goal.returns-clause-book
+returns-clause-book g c = overlay_lawful _ _ g.met.B.FundBook.lawful
+
+pub returns-clause-twice : goal.returns-clause-twice
+returns-clause-twice g c = overlay_lawful _ _ (overlay_lawful _ _ g.met.B.FundBook.lawful)
+
+pub returns-clause-binding : goal.returns-clause-binding
+returns-clause-binding g c = lower_stays_binding _ _ g.met.B.FundBook.lawful
+
+pub returns-clause-untouched : goal.returns-clause-untouched
+returns-clause-untouched g c = lower_untouched g.B.FundBook.means

@@ -9,4 +9,4 @@ returns g c =
     let month = c.in-Some.ensures in
     let next = c.if-not-admits.ensures in
     let stood = c.in_ok-stand.ensures in
-    record { does = search rules; same = tt; rules = (refl, refl); runs = λ h run. opens c.args.terms.now c.args.roster.now c.args.rows.now c.empty_days.new.rows (Ok tt) run (search rules) }
+    record { does = search rules; same = tt; rules = refl; runs = λ h run. opens c.args.terms.now c.args.roster.now c.args.rows.now c.empty_days.new.rows (Ok tt) run (search rules) }

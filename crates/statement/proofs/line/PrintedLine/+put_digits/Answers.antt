@@ -1,9 +1,8 @@
-use Rattle.std.proofs.Common.{◌≡◌, ℕ, ◌+◌, ◌/◌, ◌%◌, ◌^◌, ◌<◌, ◌≤◌, [], ◌∷◌, length, decimal, ap, ◌∙◌, arith}
+use Rattle.std.proofs.Common.{◌≡◌, ℕ, ◌+◌, ◌/◌, ◌%◌, ◌^◌, ◌<◌, ◌≤◌, [], ◌∷◌, length, decimal, ap, ◌∙◌, arith, length-append}
 use Rattle.std.proofs.lemmas.List.{length_push, append_assoc}
 use Rattle.std.proofs.lemmas.Fmt.{decimal_digit, decimal_step, decimal_nonempty}
 use Rattle.statement.proofs.line.PrintedLine.+put_digits.Goals as goal
 use Rattle.statement.proofs.line.PrintedLine.+put_digits.Goals.{then-n-ge10, else-n-ge10}
-use Rattle.statement.specs.Text.{text, size}
 
 length_decimal_step : (n : ℕ) → 10 ≤ n → n < 2 ^ 64 → length (decimal n) ≡ length (decimal (n / 10)) + 1
 length_decimal_step n ge lt = ap length (decimal_step n ge lt) ∙ length_push _ _
@@ -14,21 +13,21 @@ put_digits-requires t c = (omega arith, omega (arith, length_decimal_step c.args
 pub put_byte-requires : goal.put_byte-requires
 put_byte-requires t c =
     elim c.if-n-ge10.branch [
-      | then-n-ge10 w ↦ let e = ap size w.self-is in omega (arith, length_decimal_step c.args.n (omega arith) (omega arith), w.put_digits.ensures.size)
-      | else-n-ge10 w ↦ let e = ap size w.self-is in omega (arith, decimal_nonempty c.args.n (omega arith))
+      | then-n-ge10 w ↦
+          let e = ap length (w.self-is ∙ w.put_digits.ensures) ∙ length-append c.args.self.now (decimal (c.args.n / 10)) in
+          omega (arith, length_decimal_step c.args.n (omega arith) (omega arith))
+      | else-n-ge10 w ↦ let e = ap length w.self-is in omega (arith, decimal_nonempty c.args.n (omega arith))
     ]
 
 pub returns : goal.returns
 returns t c =
     elim c.if-n-ge10.branch [
       | then-n-ge10 w ↦
-          let e = ap size w.self-is in
           let d = decimal_step c.args.n (omega arith) (omega arith) in
-          let a = append_assoc (text c.args.self.now) (decimal (c.args.n / 10)) ((48 + c.args.n % 10) ∷ []) in
-          record { text = cc; size = omega (arith, length_decimal_step c.args.n (omega arith) (omega arith), w.put_digits.ensures.size, c.put_byte.ensures.size) }
+          let a = append_assoc c.args.self.now (decimal (c.args.n / 10)) ((48 + c.args.n % 10) ∷ []) in
+          cc
       | else-n-ge10 w ↦
-          let e = ap size w.self-is in
           let d = decimal_digit c.args.n (omega arith) in
           let m : c.args.n % 10 ≡ c.args.n = omega arith in
-          record { text = cc; size = omega (arith, ap length d, c.put_byte.ensures.size) }
+          cc
     ]

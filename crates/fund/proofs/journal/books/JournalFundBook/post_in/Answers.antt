@@ -1,9 +1,9 @@
 use Rattle.std.proofs.Common.{arith}
 use Rattle.fund.specs.Journal.{pages_of}
-use Rattle.fund.specs.Pages.{journal_lawful, sound_of}
+use Rattle.fund.specs.JournalLemmas.{journal_lawful}
 use Rattle.fund.proofs.journal.books.JournalFundBook.post_in.Goals as goal
 
 pub write-requires : goal.write-requires
 write-requires c =
     let j = c.args.self.now in
-    (journal_lawful.posted_in (pages_of j) c.args.pool c.args.amount (sound_of j) (record { place = omega (arith, c.free_places.ensures); room = omega (arith, c.balance.ensures) })).0
+    (journal_lawful.posted_in (pages_of j) c.args.pool c.args.amount j.sound (record { place = omega arith; room = omega arith })).0

@@ -1,0 +1,9 @@
+// What is told of a fault.
+
+// The number of a fault, the letter of the layer that it comes from, and what it is about.
+#[derive(Clone, Copy, PartialEq, Eq, Debug)]
+pub struct Label<P> {
+    pub number: u8,
+    pub layer: char,
+    pub place: P,
+}

@@ -1,0 +1,49 @@
+// The standing in which a book is kept.
+ghost use Rattle.std.specs.Prelude.{◌≡◌, Some};
+ghost use Rattle.fund.specs.Names.{standing_word, ReadsStanding};
+
+use std::fmt;
+
+// A binding month moves money; an advisory one only shows what it would move.
+#[derive(Clone, Copy, PartialEq, Eq, Debug)]
+pub enum Standing {
+    Binding,
+    Advisory,
+}
+
+impl Standing {
+    pub fn word(self) -> &'static str
+        ensures { result.now ≡ standing_word self }
+    {
+        match self {
+            Standing::Binding => "BINDING",
+            Standing::Advisory => "ADVISORY",
+        }
+    }
+}
+
+// A number that stands for no standing.
+#[derive(Clone, Copy, PartialEq, Eq, Debug)]
+pub struct UnknownStanding(pub u32);
+
+impl TryFrom<u32> for Standing {
+    type Error = UnknownStanding;
+
+    ghost try_from_gives = { ReadsStanding };
+
+    fn try_from(number: u32) -> Result<Standing, UnknownStanding> {
+        match number {
+            0 => Ok(Standing::Binding),
+            1 => Ok(Standing::Advisory),
+            _ => Err(UnknownStanding(number)),
+        }
+    }
+}
+
+impl fmt::Display for Standing {
+    ghost output = { λ s. Some (standing_word s) };
+
+    fn fmt<W: fmt::Write>(&self, f: &mut fmt::Formatter<W>) -> fmt::Result {
+        f.write_str(self.word())
+    }
+}

@@ -1,0 +1,30 @@
+// The two pools.
+ghost use Rattle.std.specs.Prelude.{◌≡◌, ◌∷◌, [], Some};
+ghost use Rattle.pools.specs.Names.{pool_letter};
+
+use std::fmt;
+
+#[derive(Clone, Copy, PartialEq, Eq, Debug)]
+pub enum Pool {
+    Generic,
+    Flexible,
+}
+
+impl Pool {
+    pub fn letter(self) -> u8
+        ensures { result ≡ pool_letter self }
+    {
+        match self {
+            Pool::Generic => b'G',
+            Pool::Flexible => b'F',
+        }
+    }
+}
+
+impl fmt::Display for Pool {
+    ghost output = { λ p. Some (pool_letter p ∷ []) };
+
+    fn fmt<W: fmt::Write>(&self, f: &mut fmt::Formatter<W>) -> fmt::Result {
+        f.write_char(char::from(self.letter()))
+    }
+}

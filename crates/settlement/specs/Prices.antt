@@ -1,0 +1,12 @@
+-- Prices and rates.
+use Rattle.std.specs.Prelude.{◌≡◌, ℕ, ◌*◌, ◌/◌, ◌<◌, Result, MatchResult}
+use Rattle.settlement.specs.declared.price.Price.{Price}
+use Rattle.settlement.specs.declared.price.UnfitPrice.{UnfitPrice}
+
+-- a price of so many cents; one above 500,000 is none
+abbrev pub IsPriced : ℕ → Result Price UnfitPrice → Type 0
+IsPriced cents r = MatchResult r (λ p. p.cents ≡ cents) (λ e. (e.0 ≡ cents) × (500000 < cents))
+
+-- the cents for a quantity in watts, at cents per megawatt
+abbrev pub cents_at : ℕ → ℕ → ℕ
+cents_at rate quantity = rate * quantity / 1000000

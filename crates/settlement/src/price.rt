@@ -1,0 +1,59 @@
+// Prices and rates, in cents for a megawatt and month, within their limits.
+ghost use Rattle.std.specs.Prelude.{◌≡◌, ◌≤◌};
+
+const MOST_PRICE: u32 = 500_000;
+
+// What charged lines are charged.
+#[derive(Clone, Copy, PartialEq, Eq, Debug)]
+pub struct Price {
+    pub cents: u32,
+    ghost within: { cents ≤ 500000 },
+}
+
+// A price above the limit.
+#[derive(Clone, Copy, PartialEq, Eq, Debug)]
+pub struct UnfitPrice(pub u32);
+
+impl TryFrom<u32> for Price {
+    ghost use Rattle.settlement.specs.Prices.{IsPriced};
+
+    type Error = UnfitPrice;
+
+    ghost try_from_gives = { IsPriced };
+
+    fn try_from(cents: u32) -> Result<Price, UnfitPrice> {
+        if cents > MOST_PRICE {
+            return Err(UnfitPrice(cents));
+        }
+        Ok(Price { cents })
+    }
+}
+
+// What a line is charged or paid at: at most triple the highest price.
+#[derive(Clone, Copy, PartialEq, Eq, Debug)]
+pub struct Rate {
+    pub cents: u64,
+    ghost within: { cents ≤ 1500000 },
+}
+
+impl From<Price> for Rate {
+    ghost from_gives = { λ p r. r.cents ≡ p.cents };
+
+    fn from(price: Price) -> Rate {
+        Rate {
+            cents: u64::from(price.cents),
+        }
+    }
+}
+
+impl Rate {
+    ghost use Rattle.settlement.specs.Prices.{cents_at};
+
+    // The cents for a quantity in watts.
+    pub(crate) fn cents_for(self, quantity: u64) -> u64
+        requires { quantity ≤ 58590000000 }
+        ensures { result ≡ cents_at self.cents quantity }
+    {
+        self.cents * quantity / 1_000_000
+    }
+}
