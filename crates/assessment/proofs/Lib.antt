@@ -1,6 +1,7 @@
 pub mod Arrays
+pub mod Deciding
 pub mod Running
-pub mod Dates
+pub mod Spans
 pub mod Hourly
 pub mod Watts
 pub mod Daily

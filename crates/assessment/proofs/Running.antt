@@ -1,6 +1,8 @@
 -- One step more of a sum over 1 to n.
-use Rattle.std.proofs.Common.{◌≡◌, ℕ, zero, suc, ◌+◌, ◌-◌, ◌*◌, ◌<◌, ◌≤◌, Bool, true, false, cond, ltb, sym, refl, ap, add-zero, add-suc, mul-add, add-one, arith, lt-ltb}
+use Rattle.std.proofs.Common.{◌≡◌, ℕ, zero, suc, ◌+◌, ◌*◌, ◌≤◌, Bool, cond, ◌||◌, ltb, sum_by, count_by, List, [], ◌∷◌, ◌∙◌, sym, refl, ap, add-zero, mul-add, add-one, arith}
 use Rattle.std.proofs.lemmas.Bool.Decides.{nat_tests}
+use Rattle.std.specs.List.{range_with_len, list_any}
+use Rattle.std.proofs.lemmas.List.Sums.{sum_by-cons}
 use Rattle.assessment.specs.Sums.{sum_to, count_to}
 
 pub sum_none : (f : ℕ → ℕ) → sum_to f 0 ≡ 0
@@ -11,18 +13,28 @@ pub sum_more : (f : ℕ → ℕ) (n : ℕ) → sum_to f (n + 1) ≡ sum_to f n +
 unfolding sum_to
 sum_more f n = ap (sum_to f) (add-one n)
 
--- the same where the numbers before i are summed
-pub sum_next : (f : ℕ → ℕ) (i : ℕ) → 1 ≤ i → sum_to f (i + 1 - 1) ≡ sum_to f (i - 1) + f i
-sum_next f i h =
-    let back : i + 1 - 1 ≡ i = omega arith in
-    let next : i - 1 + 1 ≡ i = omega arith in
-    omega (arith, ap (sum_to f) back, ap (sum_to f) next, ap f next, sum_more f (i - 1))
+-- the numbers after a, listed
+pub sum_listed : (f : ℕ → ℕ) (a n : ℕ) → sum_to f a + sum_by f (range_with_len (a + 1) n) ≡ sum_to f (a + n)
+sum_listed f a zero = omega (arith, ap (sum_to f) (add-zero a))
+sum_listed f a (suc n) =
+    let next : a + 1 + n ≡ a + suc n = omega arith in
+    omega (arith, sum_by-cons f (a + 1) (range_with_len (a + 1 + 1) n), sum_more f a, sum_listed f (a + 1) n, ap (sum_to f) next)
 
--- one number more counted or not, up to it
-pub count_more : (p : ℕ → Bool) (i j n n' : ℕ) (t : Bool) → 1 ≤ i → n ≡ count_to p (i - 1) → t ≡ p i → n' ≡ n + cond t 1 0 → j ≡ i → n' ≡ count_to p j
-count_more p i j n n' t h e q s is =
-    let next : i + 1 - 1 ≡ j = omega arith in
-    omega (arith, sum_next (λ k. cond (p k) 1 0) i h, ap (count_to p) next, ap {B = ℕ} (λ x. cond x 1 0) q)
+-- one of the numbers passes where more than none is counted
+one_or_more : (b : Bool) (n : ℕ) → (b || ltb 0 n) ≡ ltb 0 (cond b 1 0 + n)
+one_or_more b n = grind (arith, nat_tests)
+
+any_counted : (p : ℕ → Bool) (xs : List ℕ) → list_any p xs ≡ ltb 0 (count_by p xs)
+any_counted p [] = refl
+any_counted p (x ∷ xs) = ap (λ b. p x || b) (any_counted p xs) ∙ one_or_more (p x) (count_by p xs) ∙ ap (ltb 0) (sym (sum_by-cons (λ i. cond (p i) 1 0) x xs))
+
+pub count_listed : (p : ℕ → Bool) (n : ℕ) → count_by p (range_with_len 1 n) ≡ count_to p n
+count_listed p n =
+    let from_none : 0 + n ≡ n = omega arith in
+    omega (arith, sum_listed (λ i. cond (p i) 1 0) 0 n, sum_none (λ i. cond (p i) 1 0), ap (count_to p) from_none)
+
+pub any_listed : (p : ℕ → Bool) (n : ℕ) → list_any p (range_with_len 1 n) ≡ ltb 0 (count_to p n)
+any_listed p n = any_counted p (range_with_len 1 n) ∙ ap (ltb 0) (count_listed p n)
 
 pub sum_mono : (f g : ℕ → ℕ) → ((i : ℕ) → f i ≤ g i) → (n : ℕ) → sum_to f n ≤ sum_to g n
 unfolding sum_to
@@ -38,22 +50,6 @@ pub sum_at_least : (f g : ℕ → ℕ) (k : ℕ) → ((i : ℕ) → k * g i ≤ 
 unfolding sum_to
 sum_at_least f g k le zero = omega arith
 sum_at_least f g k le (suc n) = omega (arith, sum_at_least f g k le n, le (n + 1), mul-add k (sum_to g n) (g (n + 1)))
-
--- a sum does not fall
-pub sum_grows : (f : ℕ → ℕ) (n k : ℕ) → sum_to f n ≤ sum_to f (n + k)
-unfolding sum_to
-sum_grows f n zero = omega (arith, ap (sum_to f) (add-zero n))
-sum_grows f n (suc k) = omega (arith, sum_grows f n k, ap (sum_to f) (add-suc n k))
-
--- one that passes is counted, and none as long as none passes
-pub some_below : (p : ℕ → Bool) (i n : ℕ) → true ≡ p i → 1 ≤ i → i ≤ n → true ≡ ltb 0 (count_to p n)
-some_below p i n passes h le =
-    let up : i + (n - i) ≡ n = omega arith in
-    let above : 0 < count_to p n = omega (arith, count_more p i i _ _ true h refl passes refl refl, sum_grows (λ j. cond (p j) 1 0) i (n - i), ap (count_to p) up) in
-    sym (lt-ltb 0 (count_to p n) above)
-
-pub none_below : (p : ℕ → Bool) (i j : ℕ) → 1 ≤ i → count_to p (i - 1) ≡ 0 → false ≡ p i → j ≡ i → count_to p j ≡ 0
-none_below p i j h none fails is = sym (count_more p i j 0 0 false h (sym none) fails refl is)
 
 pub at_most_one : (b : Bool) → cond b 1 0 ≤ 1
 at_most_one b = grind (arith, nat_tests)

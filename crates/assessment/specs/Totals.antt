@@ -10,7 +10,7 @@ pub record Totals : Type 0 where
   pub day_ahead : ℕ
   pub real_time : ℕ
 
--- the same from the code, whose totals keep their limits beside them
+-- for inner contracts: the same from the code, whose totals keep their limits beside them
 abbrev pub totals_of : PoolTotals → Totals
 totals_of t = record { hours = t.hours; owed = t.owed; day_ahead = t.day_ahead; real_time = t.real_time }
 

@@ -31,11 +31,7 @@ fn days_before_month(year: u32, month: u32) -> u32
     ensures is { result ≡ sum_to (days_in year) (month - 1) }
     ensures few { result ≤ 31 * month }
 {
-    let mut days = 0;
-    for earlier in 1..month {
-        days += days_in_month(year, earlier);
-    }
-    days
+    (1..month).map(|earlier| days_in_month(year, earlier)).sum()
 }
 
 fn first_weekday(year: u32, month: u32) -> u32
@@ -105,13 +101,10 @@ impl MonthSettings {
         ensures is { result ≡ work_days self.now.month }
         ensures few { result ≤ 31 }
     {
-        let mut count = 0;
-        for day in 1..=self.days {
-            if trade_day(self, day).kind == DayKind::WorkDay {
-                count += 1;
-            }
-        }
-        count
+        // `as` narrows a count of at most 31.
+        (1..=self.days)
+            .filter(|day| trade_day(self, *day).kind == DayKind::WorkDay)
+            .count() as u32
     }
 }
 

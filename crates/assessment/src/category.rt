@@ -1,7 +1,9 @@
 // A resource's category of flexible capacity, within its limits.
 ghost use Rattle.std.specs.Prelude.{◌≡◌, ◌<◌, ◌≤◌, MatchResult};
 
-// 0: no flexible capacity; 1: base; 2: peak; 3: super-peak.
+pub const MOST_CATEGORY: u32 = 3;
+
+// 0: no flexible capacity; 1: base; 2: peak; 3: super-peak. A number, as the rules speak of ranges of categories.
 #[derive(Clone, Copy, PartialEq, Eq, Debug)]
 pub struct Category {
     pub number: u32,
@@ -18,7 +20,7 @@ impl TryFrom<u32> for Category {
     ghost try_from_gives = { λ number r. MatchResult r (λ c. c.number ≡ number) (λ e. (e.0 ≡ number) × (3 < number)) };
 
     fn try_from(number: u32) -> Result<Category, UnknownCategory> {
-        if number > 3 {
+        if number > MOST_CATEGORY {
             return Err(UnknownCategory(number));
         }
         Ok(Category { number })

@@ -8,6 +8,7 @@ use crate::submission::{DayBreach, DaySubmission, HourBids, Showing};
 
 const MOST_KILOWATTS: u32 = 2_000_000;
 
+// The tests of an hour and of a showing read other fields: one over both would be no plainer.
 fn hour_within(bids: &HourBids) -> bool
     ensures { MatchBool result (HourWithin bids.now) (HourWithin bids.now → ⊥) }
 {

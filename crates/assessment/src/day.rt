@@ -53,6 +53,7 @@ fn pool_day(own: PoolTotals, other: PoolTotals, largest: u64) -> PoolFigures
     let obligation = watts(own.owed, own, other, largest);
     let day_ahead = watts(own.day_ahead, own, other, largest);
     let real_time = watts(own.real_time, own, other, largest);
+    // `as` narrows what is proved to fit.
     PoolFigures {
         obligation: obligation as u32,
         availability: day_ahead.min(real_time) as u32,

@@ -14,6 +14,9 @@ pub type DayFigures = PerPool<PoolFigures>;
 // A place of a day table: None where nothing is recorded.
 pub type DayRow = Option<DayFigures>;
 
+// The places of a resource in a day table: one for each day that a month may have.
+pub const DAY_PLACES: usize = 31;
+
 #[derive(Clone, Copy, PartialEq, Eq, Debug)]
 pub struct DayResult {
     pub figures: DayFigures,

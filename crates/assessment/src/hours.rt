@@ -138,8 +138,8 @@ impl<G: AvailabilityRule, F: AvailabilityRule> RulePair<G, F> {
             generic: PoolTotals::NONE,
             flexible: PoolTotals::NONE,
         };
-        for (passed, bids) in submitted.submission.hours.iter().enumerate() {
-            let in_hour = self.assess_hour(day, submitted, passed as u32 + 1, bids);
+        for (hour, bids) in (1..).zip(&submitted.submission.hours) {
+            let in_hour = self.assess_hour(day, submitted, hour, bids);
             totals = PerPool {
                 generic: totals.generic.plus(in_hour.generic),
                 flexible: totals.flexible.plus(in_hour.flexible),

@@ -6,7 +6,7 @@ ghost use Rattle.assessment.specs.Pairs.{rules_of};
 
 use crate::calendar::trade_day;
 use crate::category::Category;
-use crate::day_result::{DayResult, DayRow, PoolFigures};
+use crate::day_result::{DAY_PLACES, DayResult, DayRow, PoolFigures};
 use crate::line::{Line, LineState, MonthLines};
 use crate::rule::AvailabilityRule;
 use crate::rule_pair::RulePair;
@@ -15,29 +15,19 @@ use pools::per_pool::PerPool;
 
 const HOURS: u32 = 24;
 
-const PLACES: usize = 31;
-
 fn rule_has_hours<R: AvailabilityRule>(rule: &R, day: &TradeDay, category: Category) -> bool
     ensures { result ≡ has_hours (R.means rule.now) day.now.settings.month category.number day.now.day }
 {
-    for hour in 1..=HOURS {
-        if rule.assesses(day, category, hour) {
-            return true;
-        }
-    }
-    false
+    (1..=HOURS).any(|hour| rule.assesses(day, category, hour))
 }
 
 fn days_assessed<R: AvailabilityRule>(rule: &R, settings: &MonthSettings, category: Category) -> u32
     ensures { result ≡ assessed_days (R.means rule.now) settings.now.month category.number }
 {
-    let mut count = 0;
-    for day in 1..=settings.days {
-        if rule_has_hours(rule, &trade_day(settings, day), category) {
-            count += 1;
-        }
-    }
-    count
+    // `as` narrows a count of at most 31.
+    (1..=settings.days)
+        .filter(|day| rule_has_hours(rule, &trade_day(settings, *day), category))
+        .count() as u32
 }
 
 // Watts of a pool, summed over days of a month.
@@ -50,6 +40,7 @@ struct MonthSum {
 }
 
 impl MonthSum {
+    // By hand, as for a struct with ghost fields no Default is derived.
     const NONE: MonthSum = MonthSum {
         obligation: 0,
         availability: 0,
@@ -109,7 +100,7 @@ impl<G: AvailabilityRule, F: AvailabilityRule> RulePair<G, F> {
         ensures is { MatchOption result (RowsWithin rows.now → ⊥) (λ l. RowsWithin rows.now × (l ≡ lines_of (rules_of G.means F.means self.now) settings.now.month category.number rows.now)) }
         ensures law { IfSome result LinesLaw }
     {
-        if rows.len() != PLACES {
+        if rows.len() != DAY_PLACES {
             return None;
         }
         let mut sums = PerPool {

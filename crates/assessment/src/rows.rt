@@ -6,6 +6,7 @@ use crate::day_result::{DayFigures, DayResult, DayRow, PoolFigures};
 
 const MOST_WATTS: u32 = 2_000_000_000;
 
+// What an empty place counts. By hand: a table by pool has no Default, as most entries have none.
 const NOTHING: DayFigures = DayFigures {
     generic: PoolFigures {
         obligation: 0,

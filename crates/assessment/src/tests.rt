@@ -22,14 +22,10 @@ fn is_taken(month: TradeMonth) -> bool {
 }
 
 fn submission(generic: Showing, flexible: Showing, bid: Bid) -> DaySubmission {
-    let bids = HourBids {
-        day_ahead: bid,
-        real_time: bid,
-    };
     DaySubmission {
         generic,
         flexible,
-        hours: [bids; 24],
+        hours: [HourBids::from(bid); 24],
     }
 }
 
@@ -117,22 +113,16 @@ fn day_limits(rt: HostRuntime) {
 
 #[test]
 fn partly_overlapping_windows(rt: HostRuntime) -> Result<(), Fail> {
-    let Some(june) = MonthSettings::new(JUNE) else {
-        return Err(Fail::new("June 2018 is refused"));
-    };
-    let Some(monday) = june.day(4) else {
-        return Err(Fail::new("4 June is refused"));
-    };
-    let Ok(peak) = Category::try_from(2) else {
-        return Err(Fail::new("category 2 is refused"));
-    };
+    let june = MonthSettings::new(JUNE).ok_or_else(|| Fail::new("June 2018 is refused"))?;
+    let monday = june.day(4).ok_or_else(|| Fail::new("4 June is refused"))?;
+    let peak = Category::try_from(2).map_err(|_| Fail::new("category 2 is refused"))?;
     let bid = Bid {
         economic: 0,
         self_scheduled: 1000,
     };
-    let Ok(submitted) = DayRecord::new(peak, &submission(net(2000), net(1000), bid)) else {
-        return Err(Fail::new("the day is refused"));
-    };
+    let submitted = DayRecord::new(peak, &submission(net(2000), net(1000), bid)).map_err(
+        |_| Fail::new("the day is refused"),
+    )?;
     let figures = SHIPPED_RULES.assess_day(&monday, &submitted).figures;
     assert_eq!(rt; figures.generic.obligation, 1_166_666);
     assert_eq!(rt; figures.generic.availability, 833_333);

@@ -17,6 +17,7 @@ pub struct PoolTotals {
 impl PoolTotals {
     ghost use Rattle.assessment.specs.Totals.{totals_add, totals_of};
 
+    // By hand, as for a struct with ghost fields no Default is derived.
     pub(crate) const NONE: PoolTotals = PoolTotals {
         hours: 0,
         owed: 0,

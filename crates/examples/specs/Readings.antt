@@ -1,6 +1,7 @@
 -- What is read from a day's figures and from a month's lines.
 use Rattle.std.specs.Prelude.{◌≡◌, ℕ, ◌+◌, ◌*◌, ◌/◌, ◌^◌, ◌≤◌, cond, ◌==◌}
-use Rattle.assessment.specs.Figures.{DayFigures, MonthLines}
+use Rattle.assessment.specs.declared.day_result.PoolFigures.{PoolFigures}
+use Rattle.assessment.specs.Figures.{DayFigures}
 use Rattle.assessment.specs.declared.line.Line.{Line}
 use Rattle.examples.specs.declared.refusal.Refusal.{Refusal}
 use Rattle.examples.specs.declared.refusal.Refusal.TheVariants.{TooLarge}
@@ -28,10 +29,14 @@ ShareRefused availability e = (e ≡ TooLarge) × TooMany availability
 abbrev pub average : ℕ → ℕ → ℕ
 average watts days = cond (days == 0) 0 (watts / days)
 
+-- a pool's figures of a day, as watts
+abbrev pub watts_of : PoolFigures → Watts
+watts_of f = record { obligation = f.obligation; availability = f.availability }
+
 -- a day's watts in a pool, or in both together
 abbrev pub in_part : DayFigures → Part → Watts
-in_part f part.Generic = record { obligation = f.generic.obligation; availability = f.generic.availability }
-in_part f part.Flexible = record { obligation = f.flexible.obligation; availability = f.flexible.availability }
+in_part f part.Generic = watts_of f.generic
+in_part f part.Flexible = watts_of f.flexible
 in_part f part.Combined = record {
   obligation = f.generic.obligation + f.flexible.obligation;
   availability = f.generic.availability + f.flexible.availability;

@@ -19,7 +19,7 @@ pub const NOTHING: Bid = Bid {
 };
 
 // The bids of a day by hour ending, alike in both markets.
-#[derive(Clone, Copy)]
+#[derive(Clone, Copy, PartialEq, Eq, Debug)]
 pub enum Offer {
     // The same bid in every hour.
     EveryHour(Bid),
@@ -30,7 +30,7 @@ pub enum Offer {
 }
 
 // A resource's day: its category, the kW shown in each pool, and its bids.
-#[derive(Clone, Copy)]
+#[derive(Clone, Copy, PartialEq, Eq, Debug)]
 pub struct Plan {
     pub category: u32,
     pub generic: u32,
@@ -52,13 +52,8 @@ impl Offer {
     fn hours(self) -> [HourBids; 24]
         ensures { result ≡ hours_of self }
     {
-        array::from_fn(|passed| {
-            let bid = self.bid_in(passed as u32 + 1);
-            HourBids {
-                day_ahead: bid,
-                real_time: bid,
-            }
-        })
+        // from_fn hands a usize; below 24 it fits a u32, for which there is no From.
+        array::from_fn(|passed| HourBids::from(self.bid_in(passed as u32 + 1)))
     }
 }
 
@@ -81,7 +76,7 @@ impl Plan {
 }
 
 // A day of the month, and what is planned for it.
-#[derive(Clone, Copy)]
+#[derive(Clone, Copy, PartialEq, Eq, Debug)]
 pub struct PlannedDay {
     pub day: u32,
     pub plan: Plan,

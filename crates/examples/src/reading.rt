@@ -4,11 +4,11 @@ ghost use Rattle.examples.specs.Measures.{day_measure, line_measure};
 ghost use Rattle.examples.specs.declared.measure.Measure.{Measure};
 ghost use Rattle.examples.specs.declared.refusal.Refusal.{Refusal};
 ghost use Rattle.pools.specs.PerPool.{entry_of};
-ghost use Rattle.examples.specs.Readings.{millionths, TooMany, average, in_part, from_day, from_line, ShareRefused};
+ghost use Rattle.examples.specs.Readings.{millionths, TooMany, average, watts_of, in_part, from_day, from_line, ShareRefused};
 
 use crate::measure::Measure;
 use crate::refusal::Refusal;
-use assessment::day_result::DayFigures;
+use assessment::day_result::{DayFigures, PoolFigures};
 use assessment::line::{Line, LineState, MonthLines};
 use pools::pool::Pool;
 use std::fmt;
@@ -82,10 +82,22 @@ pub enum LineReading {
     Quantity,
 }
 
+// The figures of one pool, or of both together, which need more than 32 bits.
 #[derive(Clone, Copy, Debug, PartialEq, Eq)]
 pub struct Watts {
     pub obligation: u64,
     pub availability: u64,
+}
+
+impl From<PoolFigures> for Watts {
+    ghost from_gives = { λ figures r. r ≡ watts_of figures };
+
+    fn from(figures: PoolFigures) -> Watts {
+        Watts {
+            obligation: u64::from(figures.obligation),
+            availability: u64::from(figures.availability),
+        }
+    }
 }
 
 // Availability in millionths of the obligation; None where that passes 64 bits.
@@ -115,14 +127,8 @@ fn watts_in(figures: &DayFigures, part: Part) -> Watts
     let generic = figures.generic;
     let flexible = figures.flexible;
     match part {
-        Part::Generic => Watts {
-            obligation: u64::from(generic.obligation),
-            availability: u64::from(generic.availability),
-        },
-        Part::Flexible => Watts {
-            obligation: u64::from(flexible.obligation),
-            availability: u64::from(flexible.availability),
-        },
+        Part::Generic => generic.into(),
+        Part::Flexible => flexible.into(),
         Part::Combined => Watts {
             obligation: together(generic.obligation, flexible.obligation),
             availability: together(generic.availability, flexible.availability),

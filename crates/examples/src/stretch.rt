@@ -17,7 +17,7 @@ use assessment::settings::MonthSettings;
 use std::array;
 
 // The same plan on each day from the first to the last.
-#[derive(Clone, Copy)]
+#[derive(Clone, Copy, PartialEq, Eq, Debug)]
 pub struct Stretch {
     pub first: u32,
     pub last: u32,
@@ -33,7 +33,7 @@ impl Stretch {
 }
 
 // A month of a resource, given as stretches of like days.
-#[derive(Clone, Copy)]
+#[derive(Clone, Copy, PartialEq, Eq, Debug)]
 pub struct PlannedMonth {
     // The category of the resource's lines.
     pub category: u32,
@@ -65,6 +65,8 @@ impl PlannedMonth {
     fn rows(&self, settings: &MonthSettings) -> Result<[DayRow; 31], Refusal>
         ensures { MatchResult result (λ all. all ≡ rows_of settings.now.month self.now.stretches.now) (RowsRefused settings.now.month self.now.stretches.now) }
     {
+        // Not try_from_fn: its contract does not say which month and stretches its calls were made with.
+        // from_fn hands a usize; below 31 it fits a u32, for which there is no From.
         let rows: [_; 31] = array::from_fn(|past| self.row_on(settings, past as u32 + 1));
         rows.try_map(|row| row)
     }

@@ -1,8 +1,8 @@
 -- What holds of every run of calls on a lawful book.
-use Rattle.std.specs.Prelude.{◌≡◌, ℕ, ◌+◌, ◌-◌, ◌≤◌, List, [], ◌∷◌, length, refl}
-use Rattle.std.proofs.Common.{◌∙◌, arith}
+use Rattle.std.specs.Prelude.{◌≡◌, ℕ, ◌+◌, ◌-◌, ◌≤◌, Bool, true, false, cond, List, [], ◌∷◌, length, nat_lt, refl}
+use Rattle.std.proofs.Common.{sym, subst, ◌∙◌, arith, ltb-false}
 use Rattle.fund.specs.Meaning.{FundMeaning, Lawful, Call, stands, posts_in, posts_out, rules_off, Takes, after, Posted, binding_after}
-use Rattle.fund.specs.Laws.{Postings, Run, end, binding_in, binding_out, RunsGoOn, Conserves, AdvisoryLeavesBinding, RulingOffMakesRoom, FourPostingsHavePlaces}
+use Rattle.fund.specs.Laws.{Postings, Run, end, binding_in, binding_out, with_room, Roomy, RunsGoOn, Conserves, AdvisoryLeavesBinding, RulingOffMakesRoom, FourPostingsHavePlaces}
 use Rattle.fund.specs.PostingsLemmas.{more_at, less_at, less_fits}
 use Rattle.pools.specs.declared.pool.Pool.{Pool}
 use Rattle.fund.specs.declared.standing.Standing.{Standing}
@@ -78,3 +78,11 @@ module _ {S : Type 0} (m : FundMeaning S) (sound : S → Type 0) (law : Lawful m
 
   pub four_postings_have_places : FourPostingsHavePlaces m sound
   four_postings_have_places s cs k o r few = ruling_off_makes_room s cs k o r (omega (arith, (law.holds s k).sized))
+
+  roomy_by : (s : S) (n : ℕ) (b : Bool) → sound s → nat_lt (m.free s) n ≡ b → Roomy m s (cond b (m.ruled_off s) s) n
+  roomy_by s n true k e = let h = (law.ruled_off s k).1 in record { unmoved = h.unmoved; free = λ few. omega (arith, h.free, (law.holds s k).sized) }
+  roomy_by s n false k e = record { unmoved = record { shown = λ q. refl; binding = λ q. refl; standing = refl; size = refl; takes_advisory = refl }; free = λ few. omega (arith, ltb-false _ _ e) }
+
+  -- making room makes it, in every state of every lawful book
+  pub roomy : (s t : S) (n : ℕ) → sound s → t ≡ with_room m s n → Roomy m s t n
+  roomy s t n k e = subst (λ (u : S). Roomy m s u n) (sym e) (roomy_by s n (nat_lt (m.free s) n) k refl)

@@ -73,10 +73,7 @@ impl FundBook for BalanceBook {
     }
 
     fn stand(&mut self, standing: Standing) -> Result<(), BookFault> {
-        match standing {
-            Standing::Binding => Ok(()),
-            Standing::Advisory => Err(BookFault::NoAdvisoryMonths),
-        }
+        standing.only_binding()
     }
 
     fn post_in(&mut self, pool: Pool, amount: u64) -> Result<(), BookFault> {

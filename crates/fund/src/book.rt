@@ -47,6 +47,7 @@ pub trait FundBook {
         ensures { MatchResult result (λ _. Taken means (state self.old) (state self.new) (stands standing)) (λ e. Refuses means (state self.old) (stands standing) e × (self.new ≡ self.old)) };
 
     // Posts an amount into the pool, or takes one out: a refusal leaves the book as it was.
+    // Two calls, as they differ in what they test, in their fault and in their direction.
     fn post_in(&mut self, pool: Pool, amount: u64) -> Result<(), BookFault>
         ensures { MatchResult result (λ _. Taken means (state self.old) (state self.new) (posts_in pool amount)) (λ e. Refuses means (state self.old) (posts_in pool amount) e × (self.new ≡ self.old)) };
 

@@ -8,6 +8,7 @@ use crate::posting::Posting;
 pub mod books;
 
 // The postings lie in the places handed in: `size` of them, so that writing one never needs memory.
+// The size is kept, as a Vec may have room for more.
 #[derive(Drop)]
 pub struct Journal {
     postings: Vec<Posting>,

@@ -1,7 +1,10 @@
 // The standing in which a book is kept.
-ghost use Rattle.std.specs.Prelude.{◌≡◌, Some};
+ghost use Rattle.std.specs.Prelude.{◌≡◌, Some, MatchResult};
 ghost use Rattle.fund.specs.Names.{standing_word, ReadsStanding};
+ghost use Rattle.fund.specs.declared.fault.BookFault.TheVariants.{NoAdvisoryMonths};
+ghost use Rattle.fund.specs.declared.standing.Standing.TheVariants.{Binding, Advisory};
 
+use crate::fault::BookFault;
 use std::fmt;
 
 // A binding month moves money; an advisory one only shows what it would move.
@@ -18,6 +21,16 @@ impl Standing {
         match self {
             Standing::Binding => "BINDING",
             Standing::Advisory => "ADVISORY",
+        }
+    }
+
+    // What a book that takes no advisory months answers when it is stood.
+    pub(crate) fn only_binding(self) -> Result<(), BookFault>
+        ensures { MatchResult result (λ _. self ≡ Binding) (λ e. (self ≡ Advisory) × (e ≡ NoAdvisoryMonths)) }
+    {
+        match self {
+            Standing::Binding => Ok(()),
+            Standing::Advisory => Err(BookFault::NoAdvisoryMonths),
         }
     }
 }

@@ -2,6 +2,7 @@
 ghost use Rattle.std.specs.Prelude.{◌≡◌, ℕ, sum_by};
 
 // An entry that tells the amount which counts under a selection: 0 where the selection passes it over.
+// A selection rather than a closure, so that `told` says once what counts.
 pub trait TellsAmount {
     type Selection: Copy;
 

@@ -38,6 +38,7 @@ fn print_answer(rt: &HostRuntime, call: &str, answer: Result<(), BookFault>) -> 
     };
     let label = fault.label();
     let (number, layer) = (label.number, label.layer);
+    // Matched here: a label has no one Display, since each layer has places of its own and a fault may have none.
     match label.place {
         Some(pool) => println!(rt; "{call}: REFUSED {number} {layer} {pool}"),
         None => println!(rt; "{call}: REFUSED {number} {layer}"),
@@ -101,6 +102,7 @@ fn print_advisory_month<B: FundBook>(rt: &HostRuntime, book: &mut B) -> io::Resu
 
 // Seven places are refused and come back; with one more they are enough.
 fn open_journal(rt: &HostRuntime) -> anyhow::Result<Journal> {
+    // A match, since what either side holds goes on.
     let RefusedPlaces { fault, mut places } = match Journal::over(
         vec![in rt.alloc(); Posting::BLANK; 7]?,
     ) {

@@ -25,6 +25,7 @@ pub(crate) fn refused(rt: &HostRuntime, fault: SettlementFault) -> io::Result<()
     let label = fault.label();
     let number = label.number;
     let layer = label.layer;
+    // Matched here: a label has no one Display, since each layer has places of its own and a fault may have none.
     match label.place {
         None => println!(rt; "REFUSED {number} {layer}"),
         Some(FaultPlace::Pool(pool)) => println!(rt; "REFUSED {number} {layer} {pool}"),
@@ -34,6 +35,7 @@ pub(crate) fn refused(rt: &HostRuntime, fault: SettlementFault) -> io::Result<()
     }
 }
 
+// The table holds two lines for each resource, generic first.
 fn line(rt: &HostRuntime, at: usize, entry: &LineEntry) -> io::Result<()> {
     let resource = at / 2;
     let pool = pool_at(at);
@@ -57,6 +59,7 @@ pub(crate) fn closed(
     pools: &PerPool<PoolClose>,
 ) -> io::Result<()> {
     taken(rt)?;
+    // The place tells the resource and the pool, which are printed.
     for (at, entry) in lines.iter().enumerate() {
         line(rt, at, entry)?;
     }
@@ -66,6 +69,7 @@ pub(crate) fn closed(
 
 pub(crate) fn released(rt: &HostRuntime, loads: &[LoadEntry]) -> io::Result<()> {
     taken(rt)?;
+    // The index is printed.
     for (index, entry) in loads.iter().enumerate() {
         println!(rt; "SHARE {index} {} {}", entry.generic, entry.flexible)?;
     }

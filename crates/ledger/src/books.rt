@@ -44,6 +44,7 @@ pub(crate) fn plan(words: &[&str]) -> Result<BookPlan, LineFault> {
 
 // Places for a journal, as many as asked for; past the limit one too many.
 pub(crate) fn journal_places(heap: Global, places: u64) -> Result<Vec<Posting>, AllocError> {
+    // The lesser of the two always fits a usize, so a TryFrom would have nothing to refuse.
     let places = places.min(TOO_MANY_PLACES) as usize;
     vec![in heap; Posting::BLANK; places]
 }

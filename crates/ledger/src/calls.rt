@@ -41,6 +41,7 @@ pub enum Call {
 
 // Categories as a roster: each resource's identifier is its number.
 fn roster(heap: Global, categories: &[u32]) -> Result<Vec<RosterEntry>, LineFault> {
+    // Not (0..).zip(..): a range of u32 ends at the type's top, and would drop what comes after.
     categories
         .iter()
         .enumerate()
@@ -55,12 +56,11 @@ fn roster(heap: Global, categories: &[u32]) -> Result<Vec<RosterEntry>, LineFaul
 }
 
 fn load_entries(heap: Global, words: &[&str]) -> Result<Vec<LoadEntry>, LineFault> {
-    words
-        .iter()
-        .enumerate()
-        .map(|(before, word)| -> Result<LoadEntry, LineFault> {
+    (1..)
+        .zip(words)
+        .map(|(at, word)| -> Result<LoadEntry, LineFault> {
             Ok(LoadEntry {
-                load: wide_number(word, before + 1)?,
+                load: wide_number(word, at)?,
                 generic: 0,
                 flexible: 0,
             })

@@ -2,15 +2,30 @@
 use crate::answers;
 use crate::calls::{Call, PlacedRow, TableLengths, parse};
 use crate::line_fault::LineFault;
-use assessment::day_result::DayRow;
+use assessment::day_result::{DAY_PLACES, DayRow};
 use assessment::flexible_rule::FlexibleRule;
 use assessment::generic_rule::GenericRule;
 use assessment::rule_pair::SHIPPED_RULES;
 use fund::book::FundBook;
+use settlement::fault::SettlementFault;
 use settlement::settlement::Settlement;
-use settlement::tables::{LineEntry, LoadEntry, MonthTerms, RosterEntry, SubmittedDay};
+use settlement::tables::{LINES, LineEntry, LoadEntry, MonthTerms, RosterEntry, SubmittedDay};
 use std::alloc::{AllocError, Global};
 use std::io;
+
+// Prints what a call gave, or why it was refused.
+fn answer<T, F: FnOnce(T) -> io::Result<()>>(
+    rt: &HostRuntime,
+    given: Result<T, SettlementFault>,
+    print: F,
+) -> io::Result<()>
+    requires { (x : T) → F.pre print x }
+{
+    match given {
+        Ok(value) => print(value),
+        Err(fault) => answers::refused(rt, fault),
+    }
+}
 
 #[derive(Drop)]
 pub struct Desk<B: FundBook> {
@@ -42,12 +57,13 @@ impl<B: FundBook + Drop> Desk<B> {
         self.roster = roster;
         self.set_tables(
             heap,
-            resources.saturating_mul(31),
-            resources.saturating_mul(2),
+            resources.saturating_mul(DAY_PLACES),
+            resources.saturating_mul(LINES),
         )
     }
 
     fn put_row(&mut self, placed: PlacedRow) -> Result<(), LineFault> {
+        // Any u32 fits a usize, but there is no From between them.
         let place = self
             .rows
             .get_mut(placed.place as usize)
@@ -57,41 +73,35 @@ impl<B: FundBook + Drop> Desk<B> {
     }
 
     fn open(&mut self, rt: &HostRuntime, terms: &MonthTerms) -> io::Result<()> {
-        match self
+        let opened = self
             .settlement
-            .open(terms, self.roster.as_slice(), self.rows.as_mut_slice())
-        {
-            Ok(()) => answers::taken(rt),
-            Err(fault) => answers::refused(rt, fault),
-        }
+            .open(terms, self.roster.as_slice(), self.rows.as_mut_slice());
+        answer(rt, opened, |()| answers::taken(rt))
     }
 
     fn record(&mut self, rt: &HostRuntime, day: &SubmittedDay) -> io::Result<()> {
-        match self
+        let recorded = self
             .settlement
-            .record(self.roster.as_slice(), self.rows.as_mut_slice(), day)
-        {
-            Ok(figures) => answers::recorded(rt, &figures),
-            Err(fault) => answers::refused(rt, fault),
-        }
+            .record(self.roster.as_slice(), self.rows.as_mut_slice(), day);
+        answer(rt, recorded, |figures| answers::recorded(rt, &figures))
     }
 
     fn close(&mut self, rt: &HostRuntime) -> io::Result<()> {
-        match self.settlement.close(
+        let closed = self.settlement.close(
             self.roster.as_slice(),
             self.rows.as_slice(),
             self.lines.as_mut_slice(),
-        ) {
-            Ok(pools) => answers::closed(rt, self.lines.as_slice(), &pools),
-            Err(fault) => answers::refused(rt, fault),
-        }
+        );
+        answer(
+            rt,
+            closed,
+            |pools| answers::closed(rt, self.lines.as_slice(), &pools),
+        )
     }
 
     fn release(&mut self, rt: &HostRuntime, mut loads: Vec<LoadEntry>) -> io::Result<()> {
-        match self.settlement.release(loads.as_mut_slice()) {
-            Ok(()) => answers::released(rt, loads.as_slice()),
-            Err(fault) => answers::refused(rt, fault),
-        }
+        let released = self.settlement.release(loads.as_mut_slice());
+        answer(rt, released, |()| answers::released(rt, loads.as_slice()))
     }
 
     fn fund(&self, rt: &HostRuntime) -> io::Result<()> {
@@ -105,6 +115,7 @@ impl<B: FundBook + Drop> Desk<B> {
             Call::Start(_) => return Err(LineFault::StartComesOnce),
             Call::Roster(roster) => return Ok(self.set_roster(heap, roster)?),
             Call::Tables(TableLengths { days, lines }) => {
+                // Any u32 fits a usize, but there is no From between them.
                 return Ok(self.set_tables(heap, days as usize, lines as usize)?);
             }
             Call::Row(placed) => return self.put_row(placed),

@@ -31,9 +31,8 @@ fn short_number(word: &str, at: usize) -> Result<u32, LineFault>
 
 // The words as 32-bit numbers.
 pub(crate) fn short_numbers(heap: Global, words: &[&str]) -> Result<Vec<u32>, LineFault> {
-    words
-        .iter()
-        .enumerate()
-        .map(|(before, word)| short_number(word, before + 1))
+    (1..)
+        .zip(words)
+        .map(|(at, word)| short_number(word, at))
         .try_collect(heap)
 }

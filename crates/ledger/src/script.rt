@@ -57,6 +57,7 @@ impl Script<'_> {
         layers: Layers,
         book: B,
     ) -> Result<(), Stop> {
+        // A match, since the book has another type under each number of overlays.
         match layers {
             Layers::Bare => self.drive(rt, book),
             Layers::Once => self.drive(rt, Overlay::over(book)),
@@ -95,12 +96,9 @@ pub(crate) fn script_lines<'a>(
     heap: Global,
     text: &'a str,
 ) -> Result<Vec<ScriptLine<'a>>, AllocError> {
-    text.lines()
-        .enumerate()
-        .map(|(before, text)| ScriptLine {
-            number: before.saturating_add(1),
-            text,
-        })
+    (1..)
+        .zip(text.lines())
+        .map(|(number, text)| ScriptLine { number, text })
         .filter(|line| !is_passed_over(line.text))
         .collect(heap)
 }

@@ -2,7 +2,6 @@
 #![tactic(auto)]
 
 use statement::job::{NoStatement, settle_file};
-use std::alloc::AllocError;
 use std::io::{Read, Write};
 use std::process::ExitCode;
 
@@ -19,7 +18,7 @@ fn run(rt: &HostRuntime) -> anyhow::Result<ExitCode> {
             rt.stdout().write_all(line.written())?;
             Ok(ExitCode::FAILURE)
         }
-        Err(NoStatement::OutOfMemory) => Err(AllocError.into()),
+        Err(error) => Err(error.into()),
     }
 }
 

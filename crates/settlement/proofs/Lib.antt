@@ -8,7 +8,6 @@ pub mod Closings
 pub mod Shares
 pub mod Sharing
 pub mod Ceilings
-pub mod Deciding
 pub mod Places
 pub mod Returned
 pub mod Law

@@ -1,16 +1,16 @@
 -- The lines of a month, from each resource's part of the day table.
-use Rattle.std.proofs.Common.{◌≡◌, ℕ, ◌+◌, ◌-◌, ◌*◌, ◌<◌, ◌≤◌, List, map, length, get_or, take, drop, set, IfSome, Some, None, Option, sym, ap, ◌∙◌, subst, arith, length-drop, length-take, get_or-drop, get_or-take, MatchOption}
+use Rattle.std.proofs.Common.{◌≡◌, ℕ, ◌+◌, ◌*◌, ◌<◌, ◌≤◌, List, map, length, get_or, drop, set, None, sym, ap, ◌∙◌, subst, arith, length-drop, length-take, get_or-drop, get_or-take}
 use Rattle.std.proofs.lemmas.List.FromFn.{fill_by_all, length-map-range_with_len, get_or-map-range_with_len}
 use Rattle.std.proofs.lemmas.List.Edits.{fill_by_more}
 use Rattle.std.specs.List.{range_with_len}
 use Rattle.assessment.proofs.LineLaws.{lines_law}
 use Rattle.assessment.specs.Days.{Rules}
-use Rattle.assessment.specs.Laws.{LineLaw, LinesLaw}
+use Rattle.assessment.specs.Laws.{LineLaw}
 use Rattle.assessment.specs.declared.trade_month.TradeMonth.{TradeMonth}
 use Rattle.pools.specs.declared.pool.Pool.{Pool}
 use Rattle.pools.specs.declared.pool.Pool.TheVariants.{Generic, Flexible}
 use Rattle.assessment.specs.Lines.{RowWithin, RowsWithin}
-use Rattle.assessment.specs.Figures.{DayRow, MonthLines}
+use Rattle.assessment.specs.Figures.{DayRow}
 use Rattle.settlement.specs.Closing.{no_line, charged_entry, charged_entries, line_at, QuantitiesWithin}
 use Rattle.settlement.specs.Tables.{category_of, places_of, DaysFit, EachRowWithin}
 use Rattle.settlement.specs.declared.tables.RosterEntry.{RosterEntry}
@@ -21,15 +21,6 @@ pub places_within : (rows : List DayRow) (n i : ℕ) → length rows ≡ 31 * n 
 places_within rows n i len lt each =
     let short : length (places_of rows i) ≡ 31 = simp (length-take, length-drop) (omega arith) in
     (short, λ k h. let at = get_or-take 31 (drop (31 * i) rows) k None h ∙ get_or-drop (31 * i) rows k None in subst RowWithin (sym at) (each (31 * i + k) (omega arith)))
-
--- a part of the table by its bounds
-pub part_is : (rows : List DayRow) (i : ℕ) → take (31 * i + 31 - 31 * i) (drop (31 * i) rows) ≡ places_of rows i
-part_is rows i = let n : 31 * i + 31 - 31 * i ≡ 31 = omega arith in ap (λ k. take k (drop (31 * i) rows)) n
-
--- so its lines are always there
-pub lines_there : (o : Option MonthLines) (part places : List DayRow) (L : ℕ → List DayRow → MonthLines) (k category : ℕ) → part ≡ places → k ≡ category → RowsWithin places → MatchOption o (RowsWithin part → ⊥) (λ l. RowsWithin part × (l ≡ L k part)) → IfSome o LinesLaw → MatchOption o ⊥ (λ l. (l ≡ L category places) × LinesLaw l)
-lines_there None part places L k category e ek w c law = c (subst RowsWithin (sym e) w)
-lines_there (Some l) part places L k category e ek w c law = (c.1 ∙ ap (L k) e ∙ ap (λ n. L n places) ek, law)
 
 -- an entry more of a list that is filled by a function of the place
 pub filled_more : (f : ℕ → LineEntry) (xs : List LineEntry) (i : ℕ) (y : LineEntry) → i < length xs → y ≡ f i → ((k : ℕ) → k < i → get_or xs k no_line ≡ f k) → (k : ℕ) → k < i + 1 → get_or (set xs i y) k no_line ≡ f k

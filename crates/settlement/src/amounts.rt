@@ -1,4 +1,4 @@
-// What lines and load entries tell of an amount.
+// What lines and load entries tell of an amount. The amount is selected by an enum: one total runs over whatever tells one.
 ghost use Rattle.settlement.specs.Closing.{line_tells};
 ghost use Rattle.settlement.specs.Releasing.{load_tells};
 

@@ -2,16 +2,11 @@
 ghost use Rattle.std.specs.Prelude.{MatchBool};
 ghost use Rattle.settlement.specs.Tables.{RosterFits, DaysFit, EachRowWithin, AllFit};
 
-use crate::tables::{LineEntry, RosterEntry};
-use assessment::day_result::{DayResult, DayRow};
+use crate::tables::{LINES, LineEntry, RosterEntry};
+use assessment::category::MOST_CATEGORY;
+use assessment::day_result::{DAY_PLACES, DayResult, DayRow};
 
 pub(crate) const MOST_RESOURCES: usize = 512;
-
-const MOST_CATEGORY: u32 = 3;
-
-const DAY_PLACES: usize = 31;
-
-const LINES: usize = 2;
 
 fn roster_fits(roster: &[RosterEntry]) -> bool
     ensures { MatchBool result (RosterFits roster.now) (RosterFits roster.now → ⊥) }

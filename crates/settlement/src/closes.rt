@@ -22,17 +22,18 @@ use pools::pool::Pool;
 
 const DECEMBER: u32 = 12;
 
-impl MonthDate {
-    // The calendar month of a trade month.
-    fn of(month: &TradeMonth) -> MonthDate
-        ensures { result ≡ date_of month.now }
-    {
+impl From<&TradeMonth> for MonthDate {
+    ghost from_gives = { λ m d. d ≡ date_of m.now };
+
+    fn from(month: &TradeMonth) -> MonthDate {
         MonthDate {
             year: month.year,
             month: month.month,
         }
     }
+}
 
+impl MonthDate {
     // After a December a release is due.
     fn closed(self) -> Stage
         ensures { phase_of result ≡ phase_closed self }
@@ -91,6 +92,7 @@ impl<B: FundBook, G: AvailabilityRule, F: AvailabilityRule> Settlement<B, G, F> 
             return Err(SettlementFault::OutOfTurn);
         };
         let resources = roster.len();
+        // Space of the call's own, of a fixed size: a close has no want of memory among its answers.
         let mut generic = [LineEntry::EMPTY; MOST_RESOURCES];
         let mut flexible = [LineEntry::EMPTY; MOST_RESOURCES];
         let tables = MonthTables {
@@ -105,7 +107,7 @@ impl<B: FundBook, G: AvailabilityRule, F: AvailabilityRule> Settlement<B, G, F> 
             lines,
         )?;
         post_month(&mut self.book, pools)?;
-        self.stage = MonthDate::of(&month.settings.month).closed();
+        self.stage = MonthDate::from(&month.settings.month).closed();
         Ok(pools)
     }
 }

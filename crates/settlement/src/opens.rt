@@ -117,9 +117,7 @@ impl<B: FundBook, G: AvailabilityRule, F: AvailabilityRule> Settlement<B, G, F> 
         if !self.stage.may_open() {
             return Err(SettlementFault::OutOfTurn);
         }
-        let Some(FitTerms { month, standing }) = fit_terms(terms) else {
-            return Err(SettlementFault::UnfitTerms);
-        };
+        let FitTerms { month, standing } = fit_terms(terms).ok_or(SettlementFault::UnfitTerms)?;
         if !self.stage.admits(&terms.month) {
             return Err(SettlementFault::NotNextMonth);
         }

@@ -29,7 +29,7 @@ pub(crate) fn rate_for(price: Price, fund: u64, quantity: u128) -> Rate
     }
 }
 
-// The eligible quantity of each line, 0 where it is not eligible.
+// The eligible quantity of each line, 0 where it is not eligible, in a table of its own: the form that is asked for.
 fn eligible_quantities(entries: &[LineEntry]) -> [u64; MOST_RESOURCES]
     requires { length entries.now ≤ 512 }
     ensures eligible { (k : ℕ) → k < length entries.now → slice_index result k ≡ line_tells EligibleQuantity (slice_index_or entries.now k no_line) }
@@ -57,7 +57,8 @@ fn paid(entry: LineEntry, rate: Rate, quantity: u64) -> LineEntry
     }
 }
 
-// Pays every eligible line at the rate, from a table of the eligible quantities.
+// Pays every eligible line at the rate, from a table of the eligible quantities. The place is counted, since of lines
+// written through a zip with that table nothing would be known.
 fn pay(entries: &mut [LineEntry], rate: Rate)
     requires short { length entries.old ≤ 512 }
     requires small { QuantitiesWithin entries.old }

@@ -20,7 +20,7 @@ const CLOSE_POSTINGS: usize = 4;
 
 const RELEASE_POSTINGS: usize = 2;
 
-// Zero is not posted.
+// Zero is not posted. The two differ in the call of the book that they make, which has no direction as a parameter.
 fn post_in<B: FundBook>(book: &mut B, pool: Pool, amount: u64) -> Result<(), BookFault>
     requires place { 0 < B.means.free (B.state book.old) }
     requires room { B.means.shown (B.state book.old) pool + amount ≤ limit }

@@ -12,7 +12,7 @@ use crate::stage::Stage;
 use crate::tables::{RosterEntry, SubmittedDay};
 use assessment::category::Category;
 use assessment::day_record::DayRecord;
-use assessment::day_result::{DayFigures, DayRow};
+use assessment::day_result::{DAY_PLACES, DayFigures, DayRow};
 use assessment::rule::AvailabilityRule;
 use assessment::submission::DayBreach;
 use fund::book::FundBook;
@@ -49,18 +49,18 @@ impl<B: FundBook, G: AvailabilityRule, F: AvailabilityRule> Settlement<B, G, F> 
         if resource >= roster.len() {
             return Err(SettlementFault::UnknownResource(day.at));
         }
-        let Some(trade_day) = month.settings.day(day.at.day) else {
-            return Err(SettlementFault::NoSuchDay(day.at));
-        };
-        let place = 31 * resource + (day.at.day - 1) as usize;
-        let None = rows[place] else {
+        let trade_day = month
+            .settings
+            .day(day.at.day)
+            .ok_or(SettlementFault::NoSuchDay(day.at))?;
+        let place = DAY_PLACES * resource + (day.at.day - 1) as usize;
+        if rows[place].is_some() {
             return Err(SettlementFault::AlreadyRecorded(day.at));
-        };
+        }
         let category = Category::try_from(roster[resource].category).unwrap();
-        let submitted = match DayRecord::new(category, &day.submission) {
-            Ok(submitted) => submitted,
-            Err(breach) => return Err(breach_fault(breach, day.at)),
-        };
+        let submitted = DayRecord::new(category, &day.submission).map_err(|breach| breach_fault(
+            breach, day.at,
+        ))?;
         let result = self.rules.assess_day(&trade_day, &submitted);
         rows[place] = result.row();
         Ok(result.figures)

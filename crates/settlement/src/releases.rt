@@ -74,7 +74,7 @@ impl Release {
         }
     }
 
-    // Writes each entry's share of both balances.
+    // Writes each entry's share of both balances, entry by entry with its index: the form that is asked for.
     fn share_out(&self, loads: &mut [LoadEntry])
         requires { EachLoadWithin loads.old }
         ensures { loads.new ≡ map (shared self.now.balances.generic self.now.balances.flexible self.now.load) loads.old }
@@ -96,9 +96,7 @@ impl<B: FundBook, G: AvailabilityRule, F: AvailabilityRule> Settlement<B, G, F> 
         let Stage::ReleaseDue(december) = self.stage else {
             return Err(SettlementFault::OutOfTurn);
         };
-        let Some(load) = total_load(loads) else {
-            return Err(SettlementFault::UnfitLoads);
-        };
+        let load = total_load(loads).ok_or(SettlementFault::UnfitLoads)?;
         self.book.stand(Standing::Binding)?;
         let balances = PerPool::of(|pool| self.book.binding(pool));
         Release { balances, load }.share_out(loads);

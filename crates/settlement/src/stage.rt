@@ -3,7 +3,7 @@ use crate::price::Price;
 use assessment::settings::MonthSettings;
 
 // An open month, within its limits.
-#[derive(Clone, Copy)]
+#[derive(Clone, Copy, PartialEq, Eq, Debug)]
 pub struct OpenMonth {
     pub settings: MonthSettings,
     pub price: Price,
@@ -16,7 +16,7 @@ pub struct MonthDate {
     pub month: u32,
 }
 
-#[derive(Clone, Copy)]
+#[derive(Clone, Copy, PartialEq, Eq, Debug)]
 pub enum Stage {
     // No month was opened yet: the first may be any.
     Fresh,

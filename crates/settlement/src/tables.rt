@@ -15,7 +15,7 @@ pub struct RosterEntry {
     pub category: u32,
 }
 
-// What a month is opened with.
+// What a month is opened with: plain numbers, since one past its limits is refused only after other tests.
 #[derive(Clone, Copy, PartialEq, Eq, Debug)]
 pub struct MonthTerms {
     pub month: TradeMonth,
@@ -53,6 +53,9 @@ impl LineEntry {
     };
 }
 
+// How many places of the line table a resource has.
+pub const LINES: usize = 2;
+
 // The pool of a place of the line table: two places a resource, generic first.
 pub fn pool_at(place: usize) -> Pool
     ensures { result ≡ pool_at place }
@@ -64,7 +67,7 @@ pub fn pool_at(place: usize) -> Pool
     }
 }
 
-// A load in GWh, and its share of each pool's balance in cents.
+// A load in GWh, and its share of each pool's balance in cents: two fields beside another, as it is handed in.
 #[derive(Clone, Copy, PartialEq, Eq, Debug)]
 pub struct LoadEntry {
     pub load: u64,

@@ -37,10 +37,7 @@ fn hundred_megawatts(economic: u32) -> DaySubmission {
         economic,
         self_scheduled: 0,
     };
-    let bids = HourBids {
-        day_ahead: bid,
-        real_time: bid,
-    };
+    let bids = HourBids::from(bid);
     DaySubmission {
         generic: Showing {
             shown: 100_000,

@@ -11,7 +11,7 @@ use crate::price::{Price, Rate};
 use crate::stage::OpenMonth;
 use crate::tables::{LineEntry, RosterEntry};
 use assessment::category::Category;
-use assessment::day_result::DayRow;
+use assessment::day_result::{DAY_PLACES, DayRow};
 use assessment::line::{Line, LineState, MonthLines};
 use assessment::rule::AvailabilityRule;
 use assessment::rule_pair::RulePair;
@@ -49,12 +49,12 @@ impl MonthTables<'_> {
         ensures law { LinesLaw result }
     {
         let category = Category::try_from(self.roster[i].category).unwrap();
-        let first = 31 * i;
+        let first = DAY_PLACES * i;
         rules
             .month_lines(
                 &self.month.settings,
                 category,
-                &self.rows[first..first + 31],
+                &self.rows[first..first + DAY_PLACES],
             )
             .unwrap()
     }
@@ -71,6 +71,7 @@ impl MonthTables<'_> {
         ensures generic { generic.new ≡ charged_entries (rules_of G.means F.means rules.now) self.now.month.now.settings.month self.now.month.now.price.cents self.now.roster.now self.now.rows.now Generic }
         ensures flexible { flexible.new ≡ charged_entries (rules_of G.means F.means rules.now) self.now.month.now.settings.month self.now.month.now.price.cents self.now.roster.now self.now.rows.now Flexible }
     {
+        // By index, since two tables are written at once: of what is written through zipped tables nothing is known.
         for i in 0..self.roster.len() {
             let lines = self.resource_lines(i, rules);
             generic[i] = charged(self.month.price, lines.generic);

@@ -41,12 +41,9 @@ use Rattle.statement.specs.declared.fault.StatementFault.{StatementFault}
 use Rattle.statement.specs.declared.records.FileRecord.TheVariants.{Month, Resource, Day}
 use Rattle.settlement.specs.declared.tables.SubmittedDay.{SubmittedDay}
 use Rattle.statement.proofs.Limits.{decides_terms, decides_between, decides_day, decides_flexible}
+use Rattle.statement.proofs.Outcomes.{not_taken}
 use Rattle.statement.proofs.Recorded.{rows_stay}
 use Rattle.statement.proofs.Wholes.{empty_within}
-
--- a refusal is not a taken answer
-pub not_taken : {A E P : Type 0} (e : E) (x : A) → ◌≡◌ {A = Result A E} (Err e) (Ok x) → P
-not_taken e x h = let z : ◌≡◌ {A = ℕ} 0 1 = cc in absurd (omega arith)
 
 -- an answer that is taken came of taken parts
 pub required : {A E : Type 0} (b : Bool) (e : E) (r : Result A E) (x : A) → require b e r ≡ Ok x → (b ≡ true) × (r ≡ Ok x)

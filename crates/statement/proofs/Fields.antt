@@ -1,20 +1,20 @@
 -- The words that bytes begin with.
-use Rattle.std.proofs.Common.{◌≡◌, ℕ, ◌+◌, ◌*◌, ◌/◌, ◌<◌, ◌≤◌, Bool, true, false, cond, List, map, length, drop, get_or, set, ltb, Ok, Err, Result, refl, ap, ◌∙◌, arith}
+use Rattle.std.proofs.Common.{◌≡◌, ℕ, ◌+◌, ◌*◌, ◌/◌, ◌<◌, ◌≤◌, Bool, true, false, cond, List, map, length, drop, get_or, ltb, Ok, Err, Result, refl, ap, ◌∙◌, arith}
 use Rattle.std.proofs.lemmas.Bool.{ltb-false, ltb-true}
-use Rattle.std.proofs.lemmas.List.Edits.{fill_by_more}
 use Rattle.std.proofs.lemmas.List.{get_or-drop}
 use Rattle.std.proofs.lemmas.List.FromFn.{fill_by_all, get_or-map-range_with_len, length-map-range_with_len}
 use Rattle.std.specs.List.{range_with_len}
 use Rattle.statement.specs.Layout.{word_at, hour_at, hours_at, words_of, first_words, hour_told, hours_told}
 use Rattle.statement.specs.declared.fault.ReaderFault.{ReaderFault}
 use Rattle.statement.specs.declared.fault.ReaderFault.TheVariants.{EndsInside}
+use Rattle.statement.proofs.Outcomes.{not_taken, not_refused}
 
 told_short : {A : Type 0} (b : Bool) (x : A) (e f : ReaderFault) → ◌≡◌ {A = Result A ReaderFault} (cond b (Err e) (Ok x)) (Err f) → (b ≡ true) × (f ≡ e)
 told_short true x e f h = (refl, cc)
-told_short false x e f h = let z : ◌≡◌ {A = ℕ} 0 1 = cc in absurd (omega arith)
+told_short false x e f h = not_refused _ _ h
 
 told_whole : {A : Type 0} (b : Bool) (x y : A) (e : ReaderFault) → ◌≡◌ {A = Result A ReaderFault} (cond b (Err e) (Ok x)) (Ok y) → (b ≡ false) × (y ≡ x)
-told_whole true x y e h = let z : ◌≡◌ {A = ℕ} 0 1 = cc in absurd (omega arith)
+told_whole true x y e h = not_taken _ _ h
 told_whole false x y e h = (refl, cc)
 
 pub cut_short : (n : ℕ) (bs : List ℕ) (f : ReaderFault) → first_words n bs ≡ Err f → (length bs < 4 * n) × (f ≡ EndsInside)
@@ -22,10 +22,6 @@ cut_short n bs f h = let t = told_short (ltb (length bs / 4) n) (words_of n bs) 
 
 pub complete : (n : ℕ) (bs : List ℕ) (ws : List ℕ) → first_words n bs ≡ Ok ws → (4 * n ≤ length bs) × (ws ≡ words_of n bs)
 complete n bs ws h = let t = told_whole (ltb (length bs / 4) n) (words_of n bs) ws EndsInside h in (let l = ltb-false _ _ t.0 in omega arith, t.1)
-
--- one place more of a table is filled in
-pub written : {X : Type 0} (f : ℕ → X) (xs : List X) (i : ℕ) (x : X) → x ≡ f i → i < length xs → ((k : ℕ) (d : X) → k < i → get_or xs k d ≡ f k) → (k : ℕ) (d : X) → k < i + 1 → get_or (set xs i x) k d ≡ f k
-written f xs i x e lt h k d = rw e (fill_by_more f xs i d lt (λ j. h j d) k)
 
 -- a word of them, by its byte
 word_in : (bs : List ℕ) (n i j : ℕ) → i < n → j ≡ 4 * i → get_or (words_of n bs) i 0 ≡ word_at bs j

@@ -1,3 +1,4 @@
+pub mod Outcomes
 pub mod Enrolled
 pub mod Parsed
 pub mod Fields

@@ -25,6 +25,7 @@ use Rattle.settlement.specs.declared.tables.PoolClose.{PoolClose}
 use Rattle.statement.specs.Settling.{pool_book, pool_rules, terms_within, opens, open_view, closed_month, fund_in}
 use Rattle.statement.proofs.Limits.{refuted, decides_terms}
 use Rattle.statement.proofs.Recorded.{met, unmet}
+use Rattle.statement.proofs.Outcomes.{not_taken}
 
 abbrev start_view : View (Overlaid Balances)
 start_view = started pool_book (over balance_book no_money)
@@ -37,7 +38,7 @@ module _ (t : MonthTerms) (roster : List RosterEntry) (rows rows' : List DayRow)
   taken_as : (a : Result (Unit {0}) SettlementFault) (x : Unit {0}) → a ≡ Ok x → Opens pool_book start_view t roster rows a w rows' → (opens t ≡ Ok tt) × (w ≡ open_view t) × (rows' ≡ replicate (length rows) None)
   unfolding open_view
   taken_as (Ok y) x h o = (met _ _ _ ((decides_terms t).1 o.0.within), o.1, o.2)
-  taken_as (Err e) x h o = let z : ◌≡◌ {A = ℕ} 0 1 = cc in absurd (omega arith)
+  taken_as (Err e) x h o = not_taken _ _ h
 
   refused_as : (e : SettlementFault) → Opens pool_book start_view t roster rows (Err e) w rows' → opens t ≡ Err e
   refused_as UnfitTables o = absurd (o.0 fit)
@@ -53,7 +54,7 @@ module _ (t : MonthTerms) (roster : List RosterEntry) (rows rows' : List DayRow)
   refused_as (Book e) o = absurd (never_refuses start_view.book (standing_of t.standing) e o.0.4)
 
   refused_with : (a : Result (Unit {0}) SettlementFault) (e : SettlementFault) → a ≡ Err e → Opens pool_book start_view t roster rows a w rows' → opens t ≡ Err e
-  refused_with (Ok y) e h o = let z : ◌≡◌ {A = ℕ} 0 1 = cc in absurd (omega arith)
+  refused_with (Ok y) e h o = cc
   refused_with (Err f) e h o = let q = refused_as f o in cc
 
   pub open_taken : (v : View (Overlaid Balances)) (a : Result (Unit {0}) SettlementFault) (x : Unit {0}) → v ≡ start_view → a ≡ Ok x → Opens pool_book v t roster rows a w rows' → (opens t ≡ Ok tt) × (w ≡ open_view t) × (rows' ≡ replicate (length rows) None)
@@ -78,7 +79,7 @@ module _ (t : MonthTerms) (roster : List RosterEntry) (rows : List DayRow) (line
   closed_as (Ok q) p h o =
       let pools : p ≡ q = cc in
       met _ _ _ (le-leb _ _ o.0.generic) ∙ met _ _ _ (le-leb _ _ o.0.flexible) ∙ rw (pools, o.1.0, o.1.1, o.1.2) refl
-  closed_as (Err e) p h o = let z : ◌≡◌ {A = ℕ} 0 1 = cc in absurd (omega arith)
+  closed_as (Err e) p h o = cc
 
   close_faults : (e : SettlementFault) → Closes pool_book pool_rules (open_view t) roster rows lines (Err e) w lines' → closed_month t roster rows ≡ Err e
   unfolding open_view closed_month
@@ -100,7 +101,7 @@ module _ (t : MonthTerms) (roster : List RosterEntry) (rows : List DayRow) (line
   close_faults (Book NoAdvisoryMonths) o = absurd o.0.2
 
   refused_close : (a : Result (PerPool PoolClose) SettlementFault) (e : SettlementFault) → a ≡ Err e → Closes pool_book pool_rules (open_view t) roster rows lines a w lines' → closed_month t roster rows ≡ Err e
-  refused_close (Ok q) e h o = let z : ◌≡◌ {A = ℕ} 0 1 = cc in absurd (omega arith)
+  refused_close (Ok q) e h o = cc
   refused_close (Err f) e h o = let q = close_faults f o in cc
 
   pub close_taken : (v : View (Overlaid Balances)) (a : Result (PerPool PoolClose) SettlementFault) (p : PerPool PoolClose) (g f : ℕ) → v ≡ open_view t → a ≡ Ok p → g ≡ pool_book.shown w.book Generic → f ≡ pool_book.shown w.book Flexible → Closes pool_book pool_rules v roster rows lines a w lines'

@@ -20,7 +20,8 @@ use Rattle.statement.specs.declared.fault.ReaderFault.TheVariants.{Misplaced}
 use Rattle.statement.specs.declared.fault.StatementFault.{StatementFault}
 use Rattle.statement.specs.declared.records.FileRecord.TheVariants.{Month, Resource, Day}
 use Rattle.settlement.specs.declared.tables.SubmittedDay.{SubmittedDay}
-use Rattle.statement.proofs.Accounted.{not_taken, parts, same_ok, recorded_taken, listed_fits}
+use Rattle.statement.proofs.Accounted.{parts, same_ok, recorded_taken, listed_fits}
+use Rattle.statement.proofs.Outcomes.{not_taken}
 use Rattle.statement.proofs.Recorded.{recorded_is}
 
 module _ (t : MonthTerms) (roster : List RosterEntry) where

@@ -1,5 +1,5 @@
 -- The whole output of a month file: its statement, or the one line of its refusal.
-use Rattle.std.specs.Prelude.{ℕ, zero, suc, ◌/◌, Bool, true, false, List, [], ◌++◌, length, Ok, Err, Result, ◌==◌, slice_index_or}
+use Rattle.std.specs.Prelude.{ℕ, zero, suc, ◌/◌, Bool, true, false, List, [], ◌++◌, length, Ok, Err, Result, slice_index_or}
 use Rattle.assessment.specs.declared.line.LineState.{LineState}
 use Rattle.assessment.specs.declared.line.LineState.TheVariants.{Empty, Charged, Neutral, Paid}
 use Rattle.pools.specs.declared.pool.Pool.TheVariants.{Generic, Flexible}

@@ -1,5 +1,5 @@
 -- Why a month file has no statement.
-use Rattle.std.specs.Prelude.{◌≡◌, ℕ, false, List}
+use Rattle.std.specs.Prelude.{◌≡◌, ℕ, false, List, Some, Option, codes}
 use Rattle.statement.specs.Printing.{output, is_settled}
 use Rattle.statement.specs.Rows.{refusal_row}
 use Rattle.statement.specs.declared.fault.MonthError.{MonthError}
@@ -11,6 +11,11 @@ use Rattle.statement.specs.declared.job.NoStatement.TheVariants.{Refused, OutOfM
 abbrev pub no_statement : MonthError → NoStatement
 no_statement (month.Fault f) = Refused (refusal_row f)
 no_statement month.OutOfMemory = OutOfMemory
+
+-- what is shown for such a file: the line of the refusal, or the want of memory
+abbrev pub shown : NoStatement → Option (List ℕ)
+shown (Refused line) = Some line
+shown OutOfMemory = Some (codes "memory allocation failed")
 
 -- a file refused has the line as its whole output; want of memory tells nothing of the file
 abbrev pub RefusedBy : List ℕ → NoStatement → Type 0

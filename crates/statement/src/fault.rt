@@ -16,20 +16,20 @@ pub enum ReaderFault {
 }
 
 // A fault, and the byte offset at which it is told.
-#[derive(Clone, Copy)]
+#[derive(Clone, Copy, PartialEq, Eq, Debug)]
 pub struct Located<F> {
     pub fault: F,
     pub offset: usize,
 }
 
-#[derive(Clone, Copy)]
+#[derive(Clone, Copy, PartialEq, Eq, Debug)]
 pub enum StatementFault {
     Reader(Located<ReaderFault>),
     Settlement(Located<SettlementFault>),
 }
 
 // Why a month is not settled: the file has a fault, or memory ran out.
-#[derive(Clone, Copy)]
+#[derive(Clone, Copy, PartialEq, Eq, Debug)]
 pub enum MonthError {
     Fault(StatementFault),
     OutOfMemory,
@@ -51,18 +51,13 @@ impl From<Located<SettlementFault>> for StatementFault {
     }
 }
 
-impl From<Located<ReaderFault>> for MonthError {
-    ghost from_gives = { λ e r. r ≡ Fault (Reader e) };
+impl<F> From<Located<F>> for MonthError
+where
+    StatementFault: From<Located<F>>,
+{
+    ghost from_gives = { λ e r. (f : _) × (r ≡ Fault f) × bound-1.from_gives e f };
 
-    fn from(e: Located<ReaderFault>) -> MonthError {
-        MonthError::Fault(StatementFault::from(e))
-    }
-}
-
-impl From<Located<SettlementFault>> for MonthError {
-    ghost from_gives = { λ e r. r ≡ Fault (Settlement e) };
-
-    fn from(e: Located<SettlementFault>) -> MonthError {
+    fn from(e: Located<F>) -> MonthError {
         MonthError::Fault(StatementFault::from(e))
     }
 }
@@ -79,8 +74,5 @@ impl From<AllocError> for MonthError {
 pub fn at_offset<T, F>(answer: Result<T, F>, offset: usize) -> Result<T, Located<F>>
     ensures { result ≡ placed answer offset }
 {
-    match answer {
-        Ok(value) => Ok(value),
-        Err(fault) => Err(Located { fault, offset }),
-    }
+    answer.map_err(|fault| Located { fault, offset })
 }

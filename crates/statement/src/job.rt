@@ -3,7 +3,7 @@ ghost use Rattle.std.specs.Prelude.{◌≡◌, true, ◌++◌, IfOk, IfErr, OnOk
 ghost use Rattle.statement.specs.Laws.{PrintsClose, StatementsKeepTheLaw, RefusedInOneLine, RecordsDecide, DaysInAnyOrder};
 ghost use Rattle.statement.specs.Months.{closed_of};
 ghost use Rattle.statement.specs.Printing.{place_row, line_rows, statement_text, output, is_settled};
-ghost use Rattle.statement.specs.Refusals.{no_statement, RefusedBy};
+ghost use Rattle.statement.specs.Refusals.{shown, no_statement, RefusedBy};
 ghost use Rattle.statement.specs.declared.job.NoStatement.TheVariants.{OutOfMemory};
 
 use crate::closed_month::ClosedMonth;
@@ -15,6 +15,8 @@ use assessment::line::LineState;
 use pools::pool::Pool;
 use settlement::tables::{LineEntry, pool_at};
 use std::alloc::{AllocError, Global};
+use std::error::Error;
+use std::fmt;
 
 // Why a month file has no statement: it is refused, in this line, or memory ran out.
 #[derive(Debug, Drop)]
@@ -22,6 +24,19 @@ pub enum NoStatement {
     Refused(PrintedLine),
     OutOfMemory,
 }
+
+impl fmt::Display for NoStatement {
+    ghost output = { shown };
+
+    fn fmt<W: fmt::Write>(&self, f: &mut fmt::Formatter<W>) -> fmt::Result {
+        match self {
+            NoStatement::Refused(line) => write!(f, "{line}"),
+            NoStatement::OutOfMemory => write!(f, "memory allocation failed"),
+        }
+    }
+}
+
+impl Error for NoStatement {}
 
 impl From<MonthError> for NoStatement {
     ghost from_gives = { λ e r. r ≡ no_statement e };
@@ -57,6 +72,7 @@ fn place_row(place: usize, entry: &LineEntry) -> PrintedLine
 fn put_lines(out: &mut Vec<u8>, lines: &[LineEntry]) -> Result<(), AllocError>
     ensures { OnOk result (out.new.items ≡ out.old.items ++ line_rows lines.now) }
 {
+    // the place is data: it tells the line's resource and pool
     for (place, entry) in lines.iter().enumerate() {
         out.extend_from_slice(place_row(place, entry).written())?;
     }

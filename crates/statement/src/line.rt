@@ -1,7 +1,9 @@
 // A printed line, built in a buffer of 96 bytes: the first `len` are written, the others are 0.
-ghost use Rattle.std.specs.Prelude.{◌≡◌, ℕ, ◌≤◌, List, take, slice_index};
+// That a line is such a buffer, and no String, is given: a refusal is printed without any heap.
+ghost use Rattle.std.specs.Prelude.{◌≡◌, ℕ, ◌≤◌, List, take, slice_index, Some};
 
 use std::marker::Model;
+use std::{fmt, str};
 
 mod puts;
 
@@ -18,4 +20,12 @@ impl Model for PrintedLine {
     ghost view = { λ l. take l.len l.bytes };
 
     ghost invariant = { λ l. (l.len ≤ 96) × ((k : ℕ) → l.len ≤ k → slice_index l.bytes k ≡ 0) };
+}
+
+impl fmt::Display for PrintedLine {
+    ghost output = { λ l. Some l };
+
+    fn fmt<W: fmt::Write>(&self, f: &mut fmt::Formatter<W>) -> fmt::Result {
+        f.write_str(str::from_utf8(self.written()).map_err(|_| fmt::Error)?)
+    }
 }

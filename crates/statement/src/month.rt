@@ -9,9 +9,11 @@ ghost use Rattle.statement.specs.Settling.{recorded, days_part, told_at, closed_
 
 use crate::closed_month::ClosedMonth;
 use crate::fault::{MonthError, at_offset};
-use crate::reader::{DAY_BYTES, day_record, month_record, roster_record};
+use crate::reader::{
+    DAY_BYTES, MONTH_BYTES, RESOURCE_BYTES, day_record, month_record, roster_record,
+};
 use crate::roster::Roster;
-use assessment::day_result::DayRow;
+use assessment::day_result::{DAY_PLACES, DayRow};
 use assessment::flexible_rule::FlexibleRule;
 use assessment::generic_rule::GenericRule;
 use assessment::rule_pair::SHIPPED_RULES;
@@ -20,13 +22,9 @@ use fund::overlay::Overlay;
 use pools::per_pool::PerPool;
 use settlement::fault::SettlementFault;
 use settlement::settlement::Settlement;
-use settlement::tables::{LineEntry, MonthTerms, SubmittedDay};
+use settlement::tables::{LINES, LineEntry, MonthTerms, SubmittedDay};
 use std::alloc::Global;
 use std::marker::Model;
-
-const DAY_PLACES: usize = 31;
-
-const LINES: usize = 2;
 
 // A month in progress: a settlement over a balance book under the advisory overlay, and the tables handed in with its calls.
 #[derive(Drop)]
@@ -54,8 +52,7 @@ fn read_roster(heap: Global, file: &[u8]) -> Result<Roster, MonthError>
     ensures within { IfOk result (λ r. days_offset r ≤ length file.now) }
 {
     let mut roster = Roster::empty(heap)?;
-    while roster.end() < file.len() {
-        let at = roster.end();
+    for at in (MONTH_BYTES..file.len()).step_by(RESOURCE_BYTES) {
         let number = roster.entries().len();
         let Some(entry) = at_offset(roster_record(&file[at..], number), at)? else {
             break;
@@ -87,8 +84,8 @@ impl MonthInProgress {
         ensures same { (self.new.terms ≡ self.old.terms) × (self.new.roster ≡ self.old.roster) }
     {
         self.settlement
-            .record(self.roster.entries(), &mut self.rows, day)?;
-        Ok(())
+            .record(self.roster.entries(), &mut self.rows, day)
+            .map(|_| ())
     }
 
     // Records the days, which follow the resources.
@@ -97,11 +94,9 @@ impl MonthInProgress {
         ensures value { AnswersInMemory (λ _. days_part self.new.rows (length file.now)) result (days_recorded self.old file.now) }
         ensures same { (self.new.terms ≡ self.old.terms) × (self.new.roster ≡ self.old.roster) }
     {
-        let mut at = self.roster.end();
-        while at < file.len() {
+        for at in (self.roster.end()..file.len()).step_by(DAY_BYTES) {
             let day = at_offset(day_record(&file[at..]), at)?;
             at_offset(self.record(&day), at)?;
-            at += DAY_BYTES;
         }
         Ok(())
     }

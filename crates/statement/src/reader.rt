@@ -152,6 +152,7 @@ pub fn month_record(bytes: &[u8]) -> Result<MonthTerms, ReaderFault>
 }
 
 // The resource of this number that the bytes begin with; None where the days begin.
+// The number is turned by `as`, since a u32 has no From to a usize.
 pub fn roster_record(bytes: &[u8], number: usize) -> Result<Option<RosterEntry>, ReaderFault>
     ensures value { result ≡ as_resource number (record_of bytes.now) }
     ensures within { OnOk result (16 ≤ length bytes.now) }

@@ -1,4 +1,5 @@
 // The lines of a statement, and the line of a refusal.
+// They are put piece by piece and not by `write!`: a line is always made, and of `write!` it is known what it writes only where it succeeds, but not that it does.
 ghost use Rattle.std.specs.Prelude.{◌≡◌, ◌+◌, ◌<◌, ◌≤◌, ◌++◌, length};
 ghost use Rattle.statement.specs.Rows.{two_digits, header_row, line_row, pool_row, refusal_row};
 
@@ -40,6 +41,7 @@ pub(crate) fn line_row(resource: usize, pool: Pool, entry: &LineEntry) -> Printe
     ensures { result ≡ line_row resource pool entry.now }
 {
     let mut line = PrintedLine::empty();
+    // `as`, since a usize has no From to a u64
     line.put_decimal(resource as u64);
     line.put_byte(b' ');
     line.put_byte(pool.letter());
@@ -85,6 +87,7 @@ pub fn refusal_row(fault: StatementFault) -> PrintedLine
     line.put_byte(b' ');
     line.put_byte(u8::try_from(label.layer).unwrap());
     line.put_byte(b' ');
+    // `as`, since a usize has no From to a u64
     line.put_decimal(label.place as u64);
     line.put_byte(b'\n');
     line

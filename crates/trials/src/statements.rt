@@ -1,6 +1,5 @@
 // The smallest month files and their outputs. Longer files are run by the program `vectors`.
 use statement::job::{NoStatement, settle_file};
-use std::alloc::AllocError;
 use std::process::Abort;
 use std::test::Fail;
 
@@ -10,22 +9,16 @@ const JUNE: [u8; 36] = [
     0, 0, 0, 5, 200, 120,
 ];
 
+// Ok with the bytes of a statement, or Err with the line of a refusal.
 fn gives(
     rt: &(impl Abort + AllocGlobal),
     file: &[u8],
-    settled: bool,
-    expected: &[u8],
+    expected: Result<&[u8], &[u8]>,
 ) -> Result<(), Fail> {
     match settle_file(rt.alloc(), file) {
-        Ok(statement) => {
-            assert!(rt; settled);
-            assert!(rt; statement.as_slice() == expected);
-        }
-        Err(NoStatement::Refused(line)) => {
-            assert!(rt; !settled);
-            assert!(rt; line.written() == expected);
-        }
-        Err(NoStatement::OutOfMemory) => return Err(Fail::from(AllocError)),
+        Ok(statement) => assert!(rt; expected == Ok(statement.as_slice())),
+        Err(NoStatement::Refused(line)) => assert!(rt; expected == Err(line.written())),
+        Err(error) => return Err(error.into()),
     }
     Ok(())
 }
@@ -35,20 +28,18 @@ fn a_month_alone_is_settled(rt: HostRuntime) -> Result<(), Fail> {
     gives(
         &rt,
         &JUNE,
-        true,
-        b"MONTH 2018-06 BINDING\nPOOL G 0 0 0 0\nPOOL F 0 0 0 0\n",
+        Ok(b"MONTH 2018-06 BINDING\nPOOL G 0 0 0 0\nPOOL F 0 0 0 0\n"),
     )
 }
 
 #[test]
 fn the_reader_refuses_in_its_order(rt: HostRuntime) -> Result<(), Fail> {
-    gives(&rt, b"", false, b"REFUSED 40 R 0\n")?;
-    gives(&rt, &JUNE[0..35], false, b"REFUSED 40 R 0\n")?;
-    gives(&rt, &[0, 0, 0, 4], false, b"REFUSED 41 R 0\n")?;
+    gives(&rt, b"", Err(b"REFUSED 40 R 0\n"))?;
+    gives(&rt, &JUNE[0..35], Err(b"REFUSED 40 R 0\n"))?;
+    gives(&rt, &[0, 0, 0, 4], Err(b"REFUSED 41 R 0\n"))?;
     gives(
         &rt,
         &[0, 0, 0, 2, 0, 0, 0, 0, 0, 0, 0, 0, 0, 0, 0, 0],
-        false,
-        b"REFUSED 43 R 0\n",
+        Err(b"REFUSED 43 R 0\n"),
     )
 }

@@ -4,7 +4,6 @@
 
 use anyhow::anyhow;
 use statement::job::{NoStatement, settle_file};
-use std::alloc::AllocError;
 use std::fs;
 
 // How many files were run, and how many of them came out as expected.
@@ -34,7 +33,7 @@ fn run_file(rt: &HostRuntime, name: &str) -> anyhow::Result<bool> {
     let (outcome, output) = match &answer {
         Ok(statement) => ("settled", statement.as_slice()),
         Err(NoStatement::Refused(line)) => ("refused", line.written()),
-        Err(NoStatement::OutOfMemory) => return Err(AllocError.into()),
+        Err(NoStatement::OutOfMemory) => return Err(NoStatement::OutOfMemory.into()),
     };
     let agrees = output == expected.as_slice();
     let verdict = if agrees { "as expected" } else { "DIFFERS" };

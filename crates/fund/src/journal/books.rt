@@ -45,7 +45,7 @@ impl Journal {
     pub fn postings(&self) -> &[Posting]
         ensures { result.now ≡ (pages_of self.now).postings }
     {
-        &self.postings
+        self.postings.as_slice()
     }
 
     // What the postings of one direction in the pool come to.
@@ -60,6 +60,7 @@ impl Journal {
         ensures value { result ≡ balance (pages_of self.now).postings pool }
         ensures within { result ≤ limit }
     {
+        // `as` narrows what is proved to be within the limit.
         (self.posted(Direction::In, pool) - self.posted(Direction::Out, pool)) as u64
     }
 
@@ -130,10 +131,7 @@ impl FundBook for Journal {
     }
 
     fn stand(&mut self, standing: Standing) -> Result<(), BookFault> {
-        match standing {
-            Standing::Binding => Ok(()),
-            Standing::Advisory => Err(BookFault::NoAdvisoryMonths),
-        }
+        standing.only_binding()
     }
 
     fn post_in(&mut self, pool: Pool, amount: u64) -> Result<(), BookFault> {

@@ -32,9 +32,9 @@ impl PrintedLine {
         requires { length self.old + length more.now ≤ 96 }
         ensures { self.new ≡ self.old ++ more.now }
     {
-        for b in more {
-            self.put_byte(*b);
-        }
+        let end = self.len + more.len();
+        self.bytes[self.len..end].copy_from_slice(more);
+        self.len = end;
     }
 
     fn put_digits(&mut self, n: u64)
@@ -44,6 +44,7 @@ impl PrintedLine {
         if n >= 10 {
             self.put_digits(n / 10);
         }
+        // `as`, since a u64 has only a TryFrom to a u8, and a digit always fits
         self.put_byte(b'0' + (n % 10) as u8);
     }
 

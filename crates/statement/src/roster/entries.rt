@@ -6,13 +6,12 @@ ghost use Rattle.statement.specs.Rosters.{days_offset, enrolled};
 
 use super::Roster;
 use crate::reader::{MONTH_BYTES, RESOURCE_BYTES};
+use assessment::category::MOST_CATEGORY;
 use settlement::fault::SettlementFault;
 use settlement::tables::RosterEntry;
 use std::alloc::{AllocError, Global};
 
 const MOST_RESOURCES: usize = 64;
-
-const MOST_CATEGORY: u32 = 3;
 
 impl Roster {
     pub(crate) fn empty(heap: Global) -> Result<Roster, AllocError>

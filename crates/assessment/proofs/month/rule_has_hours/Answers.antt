@@ -1,12 +1,10 @@
-use Rattle.std.proofs.Common.{arith}
-use Rattle.assessment.proofs.Running.{sum_none, some_below, none_below}
+use Rattle.std.proofs.Common.{◌∙◌, rules}
+use Rattle.std.proofs.lemmas.Iterator.Search.{any_from_yields_List}
+use Rattle.assessment.proofs.Running.{any_listed}
+use Rattle.assessment.proofs.Spans.{YieldsList-from_span}
 use Rattle.assessment.proofs.month.rule_has_hours.Goals as goal
 
-pub loop-hour-init : goal.loop-hour-init
-loop-hour-init g c = sum_none _
-
-pub returns-then-assesses : goal.returns-then-assesses
-returns-then-assesses g c = some_below _ c.loop-hour.hour 24 c.if-assesses.ensures c.loop-hour.auto.hour c.loop-hour-test.true
-
-pub loop-hour-preserved : goal.loop-hour-preserved
-loop-hour-preserved g c = none_below _ c.loop-hour.hour _ c.loop-hour.auto.hour c.loop-hour.invariant c.if-assesses.ensures (omega arith)
+pub returns : goal.returns
+returns g c =
+    let assesses = (g.R.AvailabilityRule.means c.args.rule.now).assesses c.args.day.now.settings.month c.args.category.number c.args.day.now.day in
+    any_from_yields_List assesses _ _ _ c.any.ensures.ran (YieldsList-from_span 24 c.new.ensures.start c.new.ensures.end c.new.ensures.exhausted) (λ x b q k. search rules) ∙ any_listed assesses 24

@@ -2,7 +2,7 @@ use Rattle.std.proofs.Common.{◌≤◌, rules, tests}
 use Rattle.std.proofs.lemmas.Iterator.{cases_from_all, YieldsList-from_slice}
 use Rattle.settlement.specs.Tables.{nobody}
 use Rattle.settlement.specs.declared.tables.RosterEntry.{RosterEntry}
-use Rattle.settlement.proofs.Deciding.{tells_each, tells_both}
+use Rattle.assessment.proofs.Deciding.{tells_each, tells_both}
 use Rattle.settlement.proofs.checks.roster_fits.Goals as goal
 
 pub returns-then-roster-le-MOST_RESOURCES : goal.returns-then-roster-le-MOST_RESOURCES

@@ -2,7 +2,7 @@ use Rattle.std.proofs.Common.{rules, tests, None}
 use Rattle.std.proofs.lemmas.Iterator.{cases_from_all, YieldsList-from_slice}
 use Rattle.assessment.specs.Figures.{DayRow}
 use Rattle.assessment.specs.Lines.{RowWithin}
-use Rattle.settlement.proofs.Deciding.{tells_each}
+use Rattle.assessment.proofs.Deciding.{tells_each}
 use Rattle.settlement.proofs.checks.rows_within.Goals as goal
 
 pub returns : goal.returns

@@ -2,7 +2,7 @@ use Rattle.std.proofs.Common.{◌≤◌, rules, tests}
 use Rattle.std.proofs.lemmas.Iterator.{cases_from_all, YieldsList-from_slice}
 use Rattle.settlement.specs.Releasing.{no_load}
 use Rattle.settlement.specs.declared.tables.LoadEntry.{LoadEntry}
-use Rattle.settlement.proofs.Deciding.{tells_each}
+use Rattle.assessment.proofs.Deciding.{tells_each}
 use Rattle.settlement.proofs.releases.each_load_within.Goals as goal
 
 pub returns : goal.returns

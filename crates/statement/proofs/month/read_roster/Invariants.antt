@@ -1,13 +1,11 @@
-use Rattle.std.proofs.Common.{◌≡◌, ◌-◌, ◌≤◌, [], length, drop}
+use Rattle.std.proofs.Common.{◌≡◌, ◌≤◌, [], length, drop}
 use Rattle.statement.specs.Files.{records_of, roster_from}
 use Rattle.statement.specs.Rosters.{days_offset}
 use Rattle.statement.proofs.month.read_roster.Given as goal
 
-abbrev pub invariant-loop-roster : goal.invariant-loop-roster
-invariant-loop-roster l = record {
+abbrev pub invariant-loop-at : goal.invariant-loop-at
+invariant-loop-at l = record {
+  place : l.at ≡ days_offset l.roster;
   within : days_offset l.roster ≤ length l.file;
-  same : roster_from [] 36 (records_of (drop 36 l.file)) ≡ roster_from l.roster (days_offset l.roster) (records_of (drop (days_offset l.roster) l.file));
+  same : roster_from [] 36 (records_of (drop 36 l.file)) ≡ roster_from l.roster l.at (records_of (drop l.at l.file));
 }
-
-abbrev pub decreases-loop-roster : goal.decreases-loop-roster
-decreases-loop-roster l = length l.file - days_offset l.roster

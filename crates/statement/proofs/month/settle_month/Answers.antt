@@ -10,7 +10,7 @@ use Rattle.statement.proofs.month.settle_month.Goals as goal
 pub returns-in_err-terms-clause-value : goal.returns-in_err-terms-clause-value
 returns-in_err-terms-clause-value c =
     let p = err_from_is_err_and c.from_residual.result c.from_residual.ensures.1 in
-    rw (p.1, p.2) (settled_unread c.args.file.now _ (month_refused c.args.file.now c.month_record.result _ c.month_record.ensures.value (sym c.at_offset.ensures ∙ c.in_err-terms.was)))
+    rw (p.1, p.2.1, p.2.2) (settled_unread c.args.file.now _ (month_refused c.args.file.now c.month_record.result _ c.month_record.ensures.value (sym c.at_offset.ensures ∙ c.in_err-terms.was)))
 
 pub returns-in_err-roster-clause-value : goal.returns-in_err-roster-clause-value
 returns-in_err-roster-clause-value c =

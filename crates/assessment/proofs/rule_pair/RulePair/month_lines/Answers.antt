@@ -29,7 +29,7 @@ returns g c =
     let k = c.loop-row.row-index in
     let i = c.loop-row.invariant in
     let all : length rows ≤ k = c.loop-row-test.false in
-    let within : RowsWithin rows = (c.if-rows-ne-PLACES.false, λ k lt. i.within k (omega arith)) in
+    let within : RowsWithin rows = (c.if-rows-ne-DAY_PLACES.false, λ k lt. i.within k (omega arith)) in
     let is : ◌≡◌ {A = MonthLines} (record { generic = c.line.result; flexible = c.line-2.result }) (lines_of rules month category rows) =
     cc (
       summed_all (λ f. f.generic) rows k c.loop-row.sums.generic.obligation c.loop-row.sums.generic.availability c.days_assessed-generic_days.result (assessed_days rules.generic month category) c.line.result i.generic all c.days_assessed-generic_days.ensures c.line.ensures,

@@ -1,31 +1,17 @@
-use Rattle.std.proofs.Common.{◌≡◌, true, false, ◌∙◌, arith}
+use Rattle.std.proofs.Common.{◌∙◌, ap, rules}
+use Rattle.std.specs.List.{range_with_len}
+use Rattle.std.proofs.lemmas.Iterator.Consumers.{count_from_yields_List, YieldsList-from_filter, YieldsList-at}
+use Rattle.std.proofs.lemmas.List.Sums.{length-filter}
 use Rattle.assessment.specs.Calendar.{works}
-use Rattle.assessment.proofs.Dates.{at_day, is_work_day}
-use Rattle.assessment.proofs.Running.{sum_none, count_more}
+use Rattle.assessment.specs.Sums.{count_to}
+use Rattle.assessment.proofs.Running.{count_listed}
+use Rattle.assessment.proofs.Spans.{YieldsList-from_span}
 use Rattle.assessment.proofs.settings.MonthSettings.work_days.Goals as goal
-use Rattle.assessment.proofs.settings.MonthSettings.work_days.Goals.{then-eq, else-eq}
 
-pub loop-day-init : goal.loop-day-init
-loop-day-init c = (omega (arith, sum_none), omega arith)
-
-pub loop-day-preserved : goal.loop-day-preserved
-loop-day-preserved c =
-    let d = c.trade_day.result in
-    let month = c.args.self.now.month in
-    let kind : c.eq.result ≡ works month c.loop-day.day = at_day works d _ _ _ c.trade_day.ensures.day c.trade_day.ensures.settings (c.eq.ensures ∙ is_work_day d.kind ∙ d.kind_is) in
-    let i = c.loop-day.invariant.0 in
-    elim c.if-eq.branch [
-      | then-eq w ↦ (count_more (works month) c.loop-day.day _ _ _ true c.loop-day.auto.day i (cc (w.if-eq.true, kind)) w.count-is (omega arith), omega (arith, w.count-is))
-      | else-eq w ↦ (count_more (works month) c.loop-day.day _ _ _ false c.loop-day.auto.day i (cc (w.if-eq.false, kind)) (omega (arith, w.count-is)) (omega arith), omega (arith, w.count-is))
-    ]
-
-pub returns-after-eq-clause-is : goal.returns-after-eq-clause-is
-returns-after-eq-clause-is c =
-    let d = c.trade_day.result in
-    let month = c.args.self.now.month in
-    let kind : c.eq.result ≡ works month c.loop-day.day = at_day works d _ _ _ c.trade_day.ensures.day c.trade_day.ensures.settings (c.eq.ensures ∙ is_work_day d.kind ∙ d.kind_is) in
-    let i = c.loop-day.invariant.0 in
-    elim c.if-eq.branch [
-      | then-eq w ↦ count_more (works month) c.loop-day.day _ _ _ true c.loop-day.auto.day i (cc (w.if-eq.true, kind)) w.count-is (omega arith)
-      | else-eq w ↦ count_more (works month) c.loop-day.day _ _ _ false c.loop-day.auto.day i (cc (w.if-eq.false, kind)) (omega (arith, w.count-is)) (omega arith)
-    ]
+pub returns-clause-is : goal.returns-clause-is
+returns-clause-is c =
+    let settings = c.args.self.now in
+    let works_on = works settings.month in
+    let days = YieldsList-from_span settings.days c.new.ensures.start c.new.ensures.end c.new.ensures.exhausted in
+    count_from_yields_List _ _ c.count.ensures.ran (YieldsList-from_filter _ works_on (YieldsList-at c.filter.ensures.source days) c.filter.ensures.closure (λ x b q k. search rules))
+    ∙ length-filter works_on (range_with_len 1 settings.days) ∙ count_listed works_on settings.days ∙ ap (count_to works_on) settings.days_are

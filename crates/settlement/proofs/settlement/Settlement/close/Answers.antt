@@ -24,5 +24,5 @@ returns g c =
     let m = g.B.FundBook.means in
     let r = rules_of g.G.AvailabilityRule.means g.F.AvailabilityRule.means c.args.self.now.rules in
     let closed = c.in_ok-pools.ensures in
-    let does = close_taken m r (view g.B.FundBook.state c.args.self.now) _ _ _ c.args.roster.now c.args.rows.now c.args.lines.now _ _ _ _ (ap phase_of c.in-Open.is) c.if-not-all_fit.ensures closed.0 closed.1 closed.2 closed.3 (c.closed-self.ensures ∙ ap phase_closed c.of.ensures) c.in_ok-post_month.ensures refl in
+    let does = close_taken m r (view g.B.FundBook.state c.args.self.now) _ _ _ c.args.roster.now c.args.rows.now c.args.lines.now _ _ _ _ (ap phase_of c.in-Open.is) c.if-not-all_fit.ensures closed.0 closed.1 closed.2 closed.3 (c.closed-self.ensures ∙ ap phase_closed c.from.ensures) c.in_ok-post_month.ensures refl in
     record { does = does; same = tt; rules = refl; runs = λ h run handed. closes c.args.roster.now c.args.rows.now c.args.lines.now c.close_lines.new.lines (Ok c.in_ok-pools.pools) run handed does }

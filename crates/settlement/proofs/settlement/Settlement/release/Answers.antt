@@ -1,5 +1,7 @@
 use Rattle.std.proofs.Common.{◌≡◌, Ok, refl, ap, rules}
 use Rattle.pools.specs.declared.pool.Pool.TheVariants.{Generic, Flexible}
+use Rattle.settlement.specs.Releasing.{LoadsWithin, load_told}
+use Rattle.settlement.specs.declared.amounts.LoadAmount.TheVariants.{Load}
 use Rattle.settlement.specs.Runs.{releases}
 use Rattle.settlement.specs.Views.{phase_of, view}
 use Rattle.settlement.proofs.Sharing.{shares_are, shares_held, released_is, release_taken, released_view}
@@ -12,7 +14,7 @@ post_release-requires g c =
     let law = g.met.B.FundBook.lawful in
     let real = g.met.B.FundBook.real c.args.self.now.book in
     let stood = c.in_ok-stand.ensures in
-    let loads = c.in-Some.ensures in
+    let loads : LoadsWithin c.args.loads.now × (c.in_ok-load.load ≡ load_told Load c.args.loads.now) = search rules in
     let generic : c.of-balances.result.generic ≡ m.binding (g.B.FundBook.state c.stand.new.self) Generic = search rules in
     let flexible : c.of-balances.result.flexible ≡ m.binding (g.B.FundBook.state c.stand.new.self) Flexible = search rules in
     let es = shares_are m _ law s _ real stood c.args.loads.now _ _ _ _ generic flexible loads.1 c.share_out.ensures in
@@ -25,7 +27,7 @@ returns g c =
     let law = g.met.B.FundBook.lawful in
     let real = g.met.B.FundBook.real c.args.self.now.book in
     let stood = c.in_ok-stand.ensures in
-    let loads = c.in-Some.ensures in
+    let loads : LoadsWithin c.args.loads.now × (c.in_ok-load.load ≡ load_told Load c.args.loads.now) = search rules in
     let generic : c.of-balances.result.generic ≡ m.binding (g.B.FundBook.state c.stand.new.self) Generic = search rules in
     let flexible : c.of-balances.result.flexible ≡ m.binding (g.B.FundBook.state c.stand.new.self) Flexible = search rules in
     let es = shares_are m _ law s _ real stood c.args.loads.now _ _ _ _ generic flexible loads.1 c.share_out.ensures in

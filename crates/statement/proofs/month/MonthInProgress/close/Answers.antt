@@ -24,7 +24,7 @@ returns-in_err-pools-clause-value c =
     let fit : AllFit c.self.inside.roster c.self.inside.rows.items c.deref_mut.result.now = (c.self.invariant.fit, c.deref_mut.ensures.len ∙ c.in_ok-lines.ensures.len ∙ ap (λ xs. 2 * length xs) c.entries.ensures.value, c.self.invariant.within) in
     let does = rw (c.entries-2.ensures.value, c.deref.ensures.value) at c.close.ensures.does in
     let o = close_refused c.self.inside.terms c.self.inside.roster c.self.inside.rows.items c.deref_mut.result.now c.close.new.lines (view (overlaid_of balances_of) c.close.new.self) fit (view (overlaid_of balances_of) c.self.inside.settlement) c.close.result q.0 c.self.invariant.opened q.1 does in
-    rw (p.1, p.2, ← c.self.view_is) (told_err c.args.offset _ q.0 o ∙ ap (λ (x : Located SettlementFault). Err (Settlement x)) (sym q.2))
+    rw (p.1, p.2.1, p.2.2, ← c.self.view_is) (told_err c.args.offset _ q.0 o ∙ ap (λ (x : Located SettlementFault). Err (Settlement x)) (sym q.2))
 
 pub invariant_of-result : goal.invariant_of-result
 invariant_of-result c = record { stands = c.standing-standing.ensures ∙ open_standing c.self.inside.terms _ c.self.invariant.opened }

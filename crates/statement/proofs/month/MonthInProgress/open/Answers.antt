@@ -25,7 +25,7 @@ returns-in_err-at_offset c =
     let fit : DaysFit c.args.roster c.deref_mut.result.now = (c.entries-2.ensures.fits, c.deref_mut.ensures.len ∙ c.in_ok-rows.ensures.len ∙ ap (λ xs. 31 * length xs) c.entries.ensures.value) in
     let does = rw c.entries-2.ensures.value at c.open.ensures.does in
     let o = open_refused c.args.terms c.args.roster c.deref_mut.result.now c.open.new.rows (view (overlaid_of balances_of) c.open.new.self) fit (view (overlaid_of balances_of) c.start-settlement.result) c.open.result q.0 start q.1 does in
-    rw (p.1, p.2) (opened_refused c.args.terms c.args.roster q.0 o ∙ ap (λ (x : Located SettlementFault). Err (Settlement x)) (sym q.2))
+    rw (p.1, p.2.1, p.2.2) (opened_refused c.args.terms c.args.roster q.0 o ∙ ap (λ (x : Located SettlementFault). Err (Settlement x)) (sym q.2))
 
 pub invariant_of-result : goal.invariant_of-result
 invariant_of-result c =

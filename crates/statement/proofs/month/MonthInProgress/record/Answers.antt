@@ -1,33 +1,14 @@
 use Rattle.std.proofs.Common.{◌≡◌, List, length, sym, ap, ◌∙◌, subst}
 use Rattle.std.proofs.lemmas.List.{with_items_is}
-use Rattle.std.proofs.lemmas.Result.{err_from_is_err_and}
 use Rattle.assessment.specs.Figures.{DayRow}
 use Rattle.statement.specs.Open.{OpenedBy}
-use Rattle.statement.proofs.Parsed.{leaves_ok, leaves_err}
+use Rattle.statement.proofs.Parsed.{leaves_map}
 use Rattle.statement.proofs.Recorded.{recorded_is, rows_stay}
 use Rattle.statement.proofs.Wholes.{open_phase}
 use Rattle.statement.proofs.month.MonthInProgress.record.Goals as goal
 
-pub returns-in_err-record-clause-value : goal.returns-in_err-record-clause-value
-returns-in_err-record-clause-value c =
-    let p = err_from_is_err_and c.from_residual.result c.from_residual.ensures.1 in
-    let does = rw (c.entries.ensures.value, c.deref_mut.ensures.value, open_phase c.self.inside.terms _ c.self.invariant.opened) at c.record.ensures.does in
-    let is = recorded_is c.self.inside.terms c.self.inside.roster c.self.inside.rows.items c.record.new.rows c.args.day.now c.record.result c.self.invariant.fit does in
-    rw (p.1, p.2, ← c.self.view_is) (leaves_err c.record.result _ _ _ c.in_err-record.was is)
-
 pub invariant_of-self : goal.invariant_of-self
 invariant_of-self c =
-    let does = rw (c.entries.ensures.value, c.deref_mut.ensures.value, open_phase c.self.inside.terms _ c.self.invariant.opened) at c.record.ensures.does in
-    let l : length c.record.new.rows ≡ c.self.inside.rows.len = c.record.auto.rows ∙ c.deref_mut.ensures.len in
-    subst (λ (rows : List DayRow). OpenedBy c.self.inside.settlement (record { terms = c.self.inside.terms; roster = c.self.inside.roster; rows = rows })) (sym (with_items_is c.self.inside.rows c.record.new.rows l))
-    (record {
-      opened = c.self.invariant.opened;
-      fit = (c.self.invariant.fit.0, c.record.auto.rows ∙ ap length c.deref_mut.ensures.value ∙ c.self.invariant.fit.1);
-      within = rows_stay c.self.inside.terms c.self.inside.roster c.self.inside.rows.items c.record.new.rows c.args.day.now c.record.result does c.self.invariant.within;
-    })
-
-pub invariant_of-self-2 : goal.invariant_of-self-2
-invariant_of-self-2 c =
     let does = rw (c.entries.ensures.value, c.deref_mut.ensures.value, open_phase c.self.inside.terms _ c.self.invariant.opened) at c.record.ensures.does in
     let l : length c.record.new.rows ≡ c.self.inside.rows.len = c.record.auto.rows ∙ c.deref_mut.ensures.len in
     subst (λ (rows : List DayRow). OpenedBy c.self.inside.settlement (record { terms = c.self.inside.terms; roster = c.self.inside.roster; rows = rows })) (sym (with_items_is c.self.inside.rows c.record.new.rows l))
@@ -42,4 +23,4 @@ returns-clause-value c =
     let does = rw (c.entries.ensures.value, c.deref_mut.ensures.value, open_phase c.self.inside.terms _ c.self.invariant.opened) at c.record.ensures.does in
     let is = recorded_is c.self.inside.terms c.self.inside.roster c.self.inside.rows.items c.record.new.rows c.args.day.now c.record.result c.self.invariant.fit does in
     let l : length c.record.new.rows ≡ c.self.inside.rows.len = c.record.auto.rows ∙ c.deref_mut.ensures.len in
-    rw (← c.self.view_is, with_items_is c.self.inside.rows c.record.new.rows l) (leaves_ok c.record.result _ _ _ c.in_ok-record.was is)
+    rw (← c.self.view_is, with_items_is c.self.inside.rows c.record.new.rows l) (leaves_map _ c.record.result c.map.result _ _ c.map.ensures.cases is)

@@ -1,4 +1,4 @@
-use Rattle.std.proofs.Common.{◌≡◌, ◌-◌, ◌≤◌, length, drop}
+use Rattle.std.proofs.Common.{◌≡◌, ◌≤◌, length, drop}
 use Rattle.statement.specs.Files.{records_of}
 use Rattle.statement.specs.Months.{days_recorded}
 use Rattle.statement.specs.Settling.{days_from}
@@ -10,6 +10,3 @@ invariant-loop-at l = record {
   same : (l.self.terms ≡ l.initial.self.terms) × (l.self.roster ≡ l.initial.self.roster);
   rest : days_recorded l.initial.self l.file ≡ days_from l.self.terms l.self.roster l.self.rows l.at (records_of (drop l.at l.file));
 }
-
-abbrev pub decreases-loop-at : goal.decreases-loop-at
-decreases-loop-at l = length l.file - l.at
