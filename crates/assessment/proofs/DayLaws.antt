@@ -3,10 +3,12 @@ use Rattle.std.proofs.Common.{◌≡◌, ℕ, ◌-◌, ◌*◌, ◌<◌, ◌≤�
 use Rattle.std.proofs.lemmas.Bool.{cases_lt}
 use Rattle.std.proofs.lemmas.Bool.Decides.{nat_tests}
 use Rattle.assessment.specs.Records.{bids_after}
-use Rattle.assessment.specs.Days.{Rules, DayCase, generic_net, flexible_net, generic_in, flexible_in, generic_hour, flexible_hour, generic_to, flexible_to, weight, larger_net, day_figures}
-use Rattle.assessment.specs.Totals.{Totals, totals_to}
+use Rattle.assessment.specs.Days.{Rules, DayCase, generic_net, flexible_net, generic_in, flexible_in, hour_of, hours_to, generic_to, flexible_to, weight, larger_net, day_figures}
+use Rattle.assessment.specs.Totals.{Totals}
 use Rattle.assessment.specs.Laws.{RulesOwed, DayLaw, LittleLost}
 use Rattle.assessment.specs.declared.submission.HourBids.{HourBids}
+use Rattle.pools.specs.declared.pool.Pool.{Pool}
+use Rattle.pools.specs.declared.pool.Pool.TheVariants.{Generic, Flexible}
 use Rattle.assessment.proofs.Running.{sum_mono, sum_scaled, sum_at_least}
 use Rattle.assessment.proofs.Watts.{figure_mono, figure_capped, obligations_shared, obligations_whole}
 
@@ -22,33 +24,26 @@ generic_owed p q G Φ = grind (arith, nat_tests)
 flexible_owed : (p : Bool) (G Φ : ℕ) → cond p Φ 0 ≤ max G Φ * cond p 1 0
 flexible_owed p G Φ = grind (arith, nat_tests)
 
-generic_hour_law : (r : Rules) (c : DayCase) (b : HourBids) (h : ℕ) → RulesOwed r → HourLaw (larger_net c.submission) (generic_hour r c b h)
-generic_hour_law r c b h o = record {
+hour_law : (r : Rules) (c : DayCase) (p : Pool) (b : HourBids) (h : ℕ) → RulesOwed r → HourLaw (larger_net c.submission) (hour_of r c p b h)
+hour_law r c Generic b h o = record {
   day_ahead_within = o.generic.taken _ _ _;
   real_time_within = o.generic.taken _ _ _;
   capped = generic_owed (generic_in r c h) (flexible_in r c h) (generic_net c) (flexible_net c);
 }
-
-flexible_hour_law : (r : Rules) (c : DayCase) (b : HourBids) (h : ℕ) → RulesOwed r → HourLaw (larger_net c.submission) (flexible_hour r c b h)
-flexible_hour_law r c b h o = record {
+hour_law r c Flexible b h o = record {
   day_ahead_within = o.flexible.taken _ _ _;
   real_time_within = o.flexible.taken _ _ _;
   capped = flexible_owed (flexible_in r c h) (generic_net c) (flexible_net c);
 }
 
 -- so over the day
-day_total_law : (k : ℕ) (hour : ℕ → Totals) → ((h : ℕ) → HourLaw k (hour h)) → (n : ℕ) → HourLaw k (totals_to hour n)
-day_total_law k hour law n = record {
-  day_ahead_within = sum_mono _ _ (λ h. (law h).day_ahead_within) n;
-  real_time_within = sum_mono _ _ (λ h. (law h).real_time_within) n;
-  capped = sum_scaled _ _ k (λ h. (law h).capped) n;
-}
-
-generic_law : (r : Rules) (c : DayCase) → RulesOwed r → HourLaw (larger_net c.submission) (generic_to r c 24)
-generic_law r c o = day_total_law (larger_net c.submission) _ (λ h. generic_hour_law r c (bids_after c.submission (h - 1)) h o) 24
-
-flexible_law : (r : Rules) (c : DayCase) → RulesOwed r → HourLaw (larger_net c.submission) (flexible_to r c 24)
-flexible_law r c o = day_total_law (larger_net c.submission) _ (λ h. flexible_hour_law r c (bids_after c.submission (h - 1)) h o) 24
+total_law : (r : Rules) (c : DayCase) (p : Pool) → RulesOwed r → HourLaw (larger_net c.submission) (hours_to r c p 24)
+total_law r c p o =
+    let law = λ (h : ℕ). hour_law r c p (bids_after c.submission (h - 1)) h o in record {
+      day_ahead_within = sum_mono _ _ (λ h. (law h).day_ahead_within) 24;
+      real_time_within = sum_mono _ _ (λ h. (law h).real_time_within) 24;
+      capped = sum_scaled _ _ (larger_net c.submission) (λ h. (law h).capped) 24;
+    }
 
 -- what is owed at least, in an hour and over the day
 generic_least : (p q : Bool) (G Φ : ℕ) → (G - Φ) * cond p 1 0 ≤ cond p (cond q (G - Φ) G) 0
@@ -76,8 +71,8 @@ day_law r c o =
     let g = generic_to r c 24 in
     let f = flexible_to r c 24 in
     let m = larger_net c.submission in
-    let lg = generic_law r c o in
-    let lf = flexible_law r c o in
+    let lg = total_law r c Generic o in
+    let lf = total_law r c Flexible o in
     record {
       generic_within = omega (arith, figure_mono _ _ g f m lg.day_ahead_within);
       flexible_within = omega (arith, figure_mono _ _ f g m lf.day_ahead_within);

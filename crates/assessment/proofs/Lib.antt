@@ -1,3 +1,4 @@
+pub mod Pools
 pub mod Arrays
 pub mod Deciding
 pub mod Running

@@ -2,6 +2,7 @@
 use Rattle.std.specs.Prelude.{◌≡◌, ℕ, ◌+◌, ◌-◌, ◌*◌, ◌/◌, ◌%◌, ◌^◌, ◌≤◌, Bool, true, false, cond, not, ◌&&◌, ◌||◌, ◌==◌, nat_le}
 use Rattle.assessment.specs.Sums.{sum_to, count_to}
 use Rattle.assessment.specs.declared.trade_month.TradeMonth.{TradeMonth}
+use Rattle.assessment.specs.declared.month_date.MonthDate.{MonthDate}
 use Rattle.assessment.specs.declared.trade_month.DayKind.{DayKind}
 use Rattle.assessment.specs.declared.trade_month.DayKind.TheVariants.{WorkDay, OffDay}
 
@@ -24,6 +25,14 @@ day_number y m d = 365 * (y - 1) + (y - 1) / 4 + (y - 1) / 400 - (y - 1) / 100 +
 -- the weekday of a date: 0 is Sunday, 6 Saturday
 abbrev pub weekday : ℕ → ℕ → ℕ → ℕ
 weekday y m d = day_number y m d % 7
+
+-- year and month of a trade month
+abbrev pub date_of : TradeMonth → MonthDate
+date_of m = record { year = m.year; month = m.month }
+
+-- the month after this one
+abbrev pub next_month : MonthDate → MonthDate
+next_month d = record { year = cond (d.month == 12) (d.year + 1) d.year; month = cond (d.month == 12) 1 (d.month + 1) }
 
 -- how many days a trade month has
 abbrev pub days_of : TradeMonth → ℕ

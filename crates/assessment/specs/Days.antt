@@ -4,14 +4,14 @@ use Rattle.assessment.specs.Rules.{Rule}
 use Rattle.assessment.specs.Records.{bids_after}
 use Rattle.assessment.specs.Totals.{Totals, totals_to}
 use Rattle.assessment.specs.declared.trade_month.TradeMonth.{TradeMonth}
+use Rattle.pools.specs.declared.pool.Pool.{Pool}
+use Rattle.pools.specs.declared.pool.Pool.TheVariants.{Generic, Flexible}
 use Rattle.assessment.specs.declared.submission.Bid.{Bid}
 use Rattle.assessment.specs.declared.submission.HourBids.{HourBids}
 use Rattle.assessment.specs.declared.submission.Showing.{Showing}
 use Rattle.assessment.specs.declared.submission.DaySubmission.{DaySubmission}
-use Rattle.assessment.specs.declared.settings.TradeDay.{TradeDay}
 use Rattle.assessment.specs.declared.day_record.DayRecord.{DayRecord}
-use Rattle.assessment.specs.declared.day_result.PoolFigures.{PoolFigures}
-use Rattle.assessment.specs.Figures.{DayFigures}
+use Rattle.assessment.specs.Figures.{PoolFigures, DayFigures}
 
 -- the rules of the two pools
 pub record Rules : Type 0 where
@@ -29,13 +29,13 @@ pub record DayCase : Type 0 where
   pub day : ℕ
   pub submission : DaySubmission
 
--- the same from the checked values of the code
-abbrev pub day_case : TradeDay → DayRecord → DayCase
-day_case d s = record {
-  month = d.settings.month;
-  category = s.category.number;
-  day = d.day;
-  submission = s.submission;
+-- the same from the checked value of the code
+abbrev pub day_case : DayRecord → DayCase
+day_case d = record {
+  month = d.day.settings.month;
+  category = d.category.number;
+  day = d.day.day;
+  submission = d.submission;
 }
 
 -- net showing: showing less exemption
@@ -104,6 +104,15 @@ flexible_to r c n = totals_to (λ h. flexible_hour r c (bids_after c.submission 
 -- the generic pool, likewise
 abbrev pub generic_to : Rules → DayCase → ℕ → Totals
 generic_to r c n = totals_to (λ h. generic_hour r c (bids_after c.submission (h - 1)) h) n
+
+-- for inner contracts: an hour of the pool named
+abbrev pub hour_of : Rules → DayCase → Pool → HourBids → ℕ → Totals
+hour_of r c Generic b h = generic_hour r c b h
+hour_of r c Flexible b h = flexible_hour r c b h
+
+-- for inner contracts: the first n hours of the pool named
+abbrev pub hours_to : Rules → DayCase → Pool → ℕ → Totals
+hours_to r c p n = totals_to (λ h. hour_of r c p (bids_after c.submission (h - 1)) h) n
 
 -- D: the two sums, each weighed by the other pool's hours
 abbrev pub weight : Totals → Totals → ℕ

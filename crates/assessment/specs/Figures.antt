@@ -1,8 +1,12 @@
--- The names of a day's figures, of a place of a day table, and of a resource's two lines.
-use Rattle.std.specs.Prelude.{Option}
-use Rattle.assessment.specs.declared.day_result.PoolFigures.{PoolFigures}
+-- The names of a pool's and a day's figures, of a place of a day table, and of a resource's two lines.
+use Rattle.std.specs.Prelude.{ℕ, Option}
+use Rattle.assessment.specs.declared.day_result.Figures.{Figures}
 use Rattle.assessment.specs.declared.line.Line.{Line}
 use Rattle.pools.specs.declared.per_pool.PerPool.{PerPool}
+
+-- a pool's figures, of any width
+abbrev pub PoolFigures : Type 0
+PoolFigures = Figures ℕ
 
 -- obligation and availability in each pool
 abbrev pub DayFigures : Type 0

@@ -5,8 +5,7 @@ use Rattle.assessment.specs.Calendar.{days_of}
 use Rattle.assessment.specs.Rules.{Rule}
 use Rattle.assessment.specs.Days.{Rules}
 use Rattle.assessment.specs.declared.trade_month.TradeMonth.{TradeMonth}
-use Rattle.assessment.specs.declared.day_result.PoolFigures.{PoolFigures}
-use Rattle.assessment.specs.Figures.{DayFigures, DayRow, MonthLines}
+use Rattle.assessment.specs.Figures.{PoolFigures, DayFigures, DayRow, MonthLines}
 use Rattle.assessment.specs.declared.line.LineState.{LineState}
 use Rattle.assessment.specs.declared.line.LineState.TheVariants.{Empty, Charged, Neutral, Paid}
 use Rattle.assessment.specs.declared.line.Line.{Line}

@@ -14,6 +14,10 @@ pub record Totals : Type 0 where
 abbrev pub totals_of : PoolTotals → Totals
 totals_of t = record { hours = t.hours; owed = t.owed; day_ahead = t.day_ahead; real_time = t.real_time }
 
+-- for inner contracts: those of no hour
+abbrev pub totals_none : Totals
+totals_none = record { hours = 0; owed = 0; day_ahead = 0; real_time = 0 }
+
 -- for inner contracts: two totals added, field by field
 abbrev pub totals_add : Totals → Totals → Totals
 totals_add a b = record {

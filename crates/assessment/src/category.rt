@@ -1,6 +1,8 @@
 // A resource's category of flexible capacity, within its limits.
 ghost use Rattle.std.specs.Prelude.{◌≡◌, ◌<◌, ◌≤◌, MatchResult};
 
+use pools::out_of_range::OutOfRange;
+
 pub const MOST_CATEGORY: u32 = 3;
 
 // 0: no flexible capacity; 1: base; 2: peak; 3: super-peak. A number, as the rules speak of ranges of categories.
@@ -10,18 +12,14 @@ pub struct Category {
     ghost within: { number ≤ 3 },
 }
 
-// A number above 3, which is no category.
-#[derive(Clone, Copy, PartialEq, Eq, Debug)]
-pub struct UnknownCategory(pub u32);
-
 impl TryFrom<u32> for Category {
-    type Error = UnknownCategory;
+    type Error = OutOfRange;
 
     ghost try_from_gives = { λ number r. MatchResult r (λ c. c.number ≡ number) (λ e. (e.0 ≡ number) × (3 < number)) };
 
-    fn try_from(number: u32) -> Result<Category, UnknownCategory> {
+    fn try_from(number: u32) -> Result<Category, OutOfRange> {
         if number > MOST_CATEGORY {
-            return Err(UnknownCategory(number));
+            return Err(OutOfRange(number));
         }
         Ok(Category { number })
     }

@@ -4,6 +4,7 @@ ghost use Rattle.assessment.specs.Records.{HourWithin, ShowingWithin, BidsWithin
 
 use crate::category::Category;
 use crate::day_record::DayRecord;
+use crate::settings::TradeDay;
 use crate::submission::{DayBreach, DaySubmission, HourBids, Showing};
 
 const MOST_KILOWATTS: u32 = 2_000_000;
@@ -39,8 +40,12 @@ fn exemptions_within(submission: &DaySubmission) -> bool
 
 impl DayRecord {
     // The day of a resource of this category, or the first limit that it breaks.
-    pub fn new(category: Category, submission: &DaySubmission) -> Result<DayRecord, DayBreach>
-        ensures { MatchResult result (λ d. (d.submission ≡ submission.now) × (d.category ≡ category)) (Breaks category.number submission.now) }
+    pub fn new(
+        day: TradeDay,
+        category: Category,
+        submission: &DaySubmission,
+    ) -> Result<DayRecord, DayBreach>
+        ensures { MatchResult result (λ d. (d.day ≡ day) × (d.category ≡ category) × (d.submission ≡ submission.now)) (Breaks category.number submission.now) }
     {
         if !showing_within(&submission.generic)
             || !showing_within(&submission.flexible)
@@ -55,6 +60,7 @@ impl DayRecord {
             return Err(DayBreach::FlexibleInCategory0);
         }
         Ok(DayRecord {
+            day,
             category,
             submission: *submission,
         })

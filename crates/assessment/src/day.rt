@@ -1,6 +1,6 @@
 // A resource's day by any two rules: the obligation and availability of both pools, in watts.
 ghost use Rattle.std.specs.Prelude.{◌≡◌, ◌≤◌};
-ghost use Rattle.assessment.specs.Days.{figure, pool_figures, larger_net, day_case, day_figures};
+ghost use Rattle.assessment.specs.Days.{figure, pool_figures, day_case, day_figures};
 ghost use Rattle.assessment.specs.Laws.{DayLaw, LittleLost};
 ghost use Rattle.assessment.specs.Lines.{PoolWithin};
 ghost use Rattle.assessment.specs.Pairs.{rules_of};
@@ -8,14 +8,11 @@ ghost use Rattle.assessment.specs.Totals.{totals_of};
 
 use crate::day_record::DayRecord;
 use crate::day_result::{DayFigures, DayResult, PoolFigures};
-use crate::hours::net_showing;
 use crate::rule::AvailabilityRule;
 use crate::rule_pair::RulePair;
-use crate::settings::TradeDay;
-use crate::submission::DaySubmission;
 use crate::totals::PoolTotals;
 
-// Exact products first, then one division.
+// Exact products first, then one division. The three after the amount pass through one call: a struct of them would be no plainer.
 fn watts(amount: u64, own: PoolTotals, other: PoolTotals, largest: u64) -> u64
     requires owed { amount ≤ own.owed }
     requires shown { largest ≤ 2000000 }
@@ -37,14 +34,6 @@ fn watts(amount: u64, own: PoolTotals, other: PoolTotals, largest: u64) -> u64
     }
 }
 
-fn larger_net_showing(submission: &DaySubmission) -> u64
-    ensures { result ≡ larger_net submission.now }
-{
-    let generic = net_showing(&submission.generic);
-    let flexible = net_showing(&submission.flexible);
-    u64::from(generic.max(flexible))
-}
-
 fn pool_day(own: PoolTotals, other: PoolTotals, largest: u64) -> PoolFigures
     requires { largest ≤ 2000000 }
     ensures is { result ≡ pool_figures (totals_of own) (totals_of other) largest }
@@ -62,13 +51,14 @@ fn pool_day(own: PoolTotals, other: PoolTotals, largest: u64) -> PoolFigures
 
 impl<G: AvailabilityRule, F: AvailabilityRule> RulePair<G, F> {
     // The day's result under the two rules.
-    pub fn assess_day(&self, day: &TradeDay, submitted: &DayRecord) -> DayResult
-        ensures is { result.figures ≡ day_figures (rules_of G.means F.means self.now) (day_case day.now submitted.now) }
-        ensures law { DayLaw (rules_of G.means F.means self.now) (day_case day.now submitted.now) }
-        ensures little_lost { LittleLost (rules_of G.means F.means self.now) (day_case day.now submitted.now) }
+    pub fn assess_day(&self, submitted: &DayRecord) -> DayResult
+        ensures is { result.figures ≡ day_figures (rules_of G.means F.means self.now) (day_case submitted.now) }
+        ensures law { DayLaw (rules_of G.means F.means self.now) (day_case submitted.now) }
+        ensures little_lost { LittleLost (rules_of G.means F.means self.now) (day_case submitted.now) }
     {
-        let totals = self.assess_hours(day, submitted);
-        let largest = larger_net_showing(&submitted.submission);
+        let totals = self.assess_hours(submitted);
+        let largest = submitted.submission.larger_net();
+        // By name, as each pool is weighed with the other: a closure by pool would have to choose the other.
         DayResult {
             figures: DayFigures {
                 generic: pool_day(totals.generic, totals.flexible, largest),

@@ -1,12 +1,30 @@
-// A day's figures in watts: as plain rows of a day table, and as a day result within its limits.
+// What is owed and available in watts: of a day as plain rows of a day table, as a day result within its limits, and in sums.
+ghost use Rattle.std.specs.Prelude.{◌≡◌};
 ghost use Rattle.assessment.specs.Lines.{PoolWithin};
 
 use pools::per_pool::PerPool;
 
-#[derive(Clone, Copy, PartialEq, Eq, Debug)]
-pub struct PoolFigures {
-    pub obligation: u32,
-    pub availability: u32,
+#[derive(Clone, Copy, Default, PartialEq, Eq, Debug)]
+pub struct Figures<N> {
+    pub obligation: N,
+    pub availability: N,
+}
+
+// A pool's figures of a day.
+pub type PoolFigures = Figures<u32>;
+
+// Sums of such figures, which may need more than 32 bits.
+pub type Watts = Figures<u64>;
+
+impl From<PoolFigures> for Watts {
+    ghost from_gives = { λ day sums. sums ≡ day };
+
+    fn from(day: PoolFigures) -> Watts {
+        Watts {
+            obligation: u64::from(day.obligation),
+            availability: u64::from(day.availability),
+        }
+    }
 }
 
 pub type DayFigures = PerPool<PoolFigures>;

@@ -5,6 +5,7 @@ ghost use Rattle.std.proofs.Common.{rules};
 use crate::category::Category;
 use crate::rule::AvailabilityRule;
 use crate::settings::TradeDay;
+use crate::submission::Bid;
 use crate::trade_month::DayKind;
 use crate::window::in_window;
 
@@ -30,7 +31,7 @@ impl AvailabilityRule for FlexibleRule {
         }
     }
 
-    fn take(&self, obligation: u32, economic: u32, self_scheduled: u32) -> (u32, u32) {
-        (obligation.min(economic), 0)
+    fn take(&self, obligation: u32, bid: Bid) -> (u32, u32) {
+        (obligation.min(bid.economic), 0)
     }
 }

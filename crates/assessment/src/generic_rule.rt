@@ -5,6 +5,7 @@ ghost use Rattle.std.proofs.Common.{rules};
 use crate::category::Category;
 use crate::rule::AvailabilityRule;
 use crate::settings::TradeDay;
+use crate::submission::Bid;
 use crate::trade_month::DayKind;
 use crate::window::in_window;
 
@@ -27,9 +28,9 @@ impl AvailabilityRule for GenericRule {
         }
     }
 
-    fn take(&self, obligation: u32, economic: u32, self_scheduled: u32) -> (u32, u32) {
-        let from_economic = obligation.min(economic);
+    fn take(&self, obligation: u32, bid: Bid) -> (u32, u32) {
+        let from_economic = obligation.min(bid.economic);
         let open = obligation - from_economic;
-        (from_economic, open.min(self_scheduled))
+        (from_economic, open.min(bid.self_scheduled))
     }
 }

@@ -10,17 +10,13 @@ pub fn june_2018_work_days() -> u32
     ensures figures { KnownFiguresAgree }
     ensures counted { result ≡ 21 }
 {
-    let june = MonthSettings {
-        month: TradeMonth {
-            year: 2018,
-            month: 6,
-            holidays: 0,
-            generic_start: 1,
-            category2_start: 3,
-            category3_start: 16,
-        },
-        days: 30,
-        first_weekday: 5,
+    let june = TradeMonth {
+        year: 2018,
+        month: 6,
+        holidays: 0,
+        generic_start: 1,
+        category2_start: 3,
+        category3_start: 16,
     };
-    june.work_days()
+    MonthSettings::new(june).unwrap().work_days()
 }

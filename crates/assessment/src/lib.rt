@@ -15,6 +15,7 @@ pub mod known;
 mod letters;
 pub mod line;
 pub mod month;
+pub mod month_date;
 mod rows;
 pub mod rule;
 pub mod rule_pair;

@@ -4,14 +4,14 @@ ghost use Rattle.assessment.specs.Laws.{LinesLaw};
 ghost use Rattle.assessment.specs.Lines.{RowsWithin, has_hours, assessed_days, line_of, lines_of};
 ghost use Rattle.assessment.specs.Pairs.{rules_of};
 
-use crate::calendar::trade_day;
 use crate::category::Category;
-use crate::day_result::{DAY_PLACES, DayResult, DayRow, PoolFigures};
+use crate::day_result::{DAY_PLACES, DayResult, DayRow, PoolFigures, Watts};
 use crate::line::{Line, LineState, MonthLines};
 use crate::rule::AvailabilityRule;
 use crate::rule_pair::RulePair;
 use crate::settings::{MonthSettings, TradeDay};
 use pools::per_pool::PerPool;
+use std::ops::Add;
 
 const HOURS: u32 = 24;
 
@@ -26,46 +26,56 @@ fn days_assessed<R: AvailabilityRule>(rule: &R, settings: &MonthSettings, catego
 {
     // `as` narrows a count of at most 31.
     (1..=settings.days)
-        .filter(|day| rule_has_hours(rule, &trade_day(settings, *day), category))
+        .filter(|day| rule_has_hours(rule, &settings.trade_day(*day), category))
         .count() as u32
 }
 
 // Watts of a pool, summed over days of a month.
-#[derive(Clone, Copy)]
+#[derive(Clone, Copy, PartialEq, Eq, Debug)]
 struct MonthSum {
-    obligation: u64,
-    availability: u64,
-    ghost within: { availability ≤ obligation },
-    ghost capped: { obligation ≤ 62000000000 },
+    watts: Watts,
+    ghost within: { watts.availability ≤ watts.obligation },
+    ghost capped: { watts.obligation ≤ 62000000000 },
+}
+
+// By hand, as for a struct with ghost fields it cannot be derived.
+impl Default for MonthSum {
+    ghost is_default = { λ sum. sum.watts ≡ record { obligation = 0; availability = 0 } };
+
+    fn default() -> MonthSum {
+        MonthSum {
+            watts: Watts::default(),
+        }
+    }
+}
+
+impl Add<PoolFigures> for MonthSum {
+    type Output = MonthSum;
+
+    ghost can_add = { λ sum day. (day.availability ≤ day.obligation) × (sum.watts.obligation + day.obligation ≤ 62000000000) };
+
+    ghost add_gives = { λ sum day r. r.watts ≡ record { obligation = sum.watts.obligation + day.obligation; availability = sum.watts.availability + day.availability } };
+
+    fn add(self, day: PoolFigures) -> MonthSum {
+        let day = Watts::from(day);
+        MonthSum {
+            watts: Watts {
+                obligation: self.watts.obligation + day.obligation,
+                availability: self.watts.availability + day.availability,
+            },
+        }
+    }
 }
 
 impl MonthSum {
-    // By hand, as for a struct with ghost fields no Default is derived.
-    const NONE: MonthSum = MonthSum {
-        obligation: 0,
-        availability: 0,
-    };
-
-    fn plus(self, day: PoolFigures) -> MonthSum
-        requires within { day.availability ≤ day.obligation }
-        requires fits { self.obligation + day.obligation ≤ 62000000000 }
-        ensures obligation { result.obligation ≡ self.obligation + day.obligation }
-        ensures availability { result.availability ≡ self.availability + day.availability }
-    {
-        MonthSum {
-            obligation: self.obligation + u64::from(day.obligation),
-            availability: self.availability + u64::from(day.availability),
-        }
-    }
-
     // The pool's line, by the days on which its rule has hours.
     fn line(self, days: u32) -> Line
-        ensures { result ≡ line_of self.obligation self.availability days }
+        ensures { result ≡ line_of self.watts.obligation self.watts.availability days }
     {
-        let MonthSum {
+        let Watts {
             obligation,
             availability,
-        } = self;
+        } = self.watts;
         let (state, quantity) = match (obligation, days) {
             (0, _) | (_, 0) => (LineState::Empty, 0),
             (_, days) if 1000 * availability < 945 * obligation => (
@@ -103,22 +113,16 @@ impl<G: AvailabilityRule, F: AvailabilityRule> RulePair<G, F> {
         if rows.len() != DAY_PLACES {
             return None;
         }
-        let mut sums = PerPool {
-            generic: MonthSum::NONE,
-            flexible: MonthSum::NONE,
-        };
+        let mut sums: PerPool<MonthSum> = PerPool::default();
         for row in rows {
             let day = DayResult::of_row(*row)?;
-            sums = PerPool {
-                generic: sums.generic.plus(day.figures.generic),
-                flexible: sums.flexible.plus(day.figures.flexible),
-            };
+            sums = PerPool::of(|pool| sums.get(pool) + day.figures.get(pool));
         }
-        let generic_days = days_assessed(&self.generic, settings, category);
-        let flexible_days = days_assessed(&self.flexible, settings, category);
-        Some(MonthLines {
-            generic: sums.generic.line(generic_days),
-            flexible: sums.flexible.line(flexible_days),
-        })
+        // By name, as each rule is of its own type.
+        let days = PerPool {
+            generic: days_assessed(&self.generic, settings, category),
+            flexible: days_assessed(&self.flexible, settings, category),
+        };
+        Some(PerPool::of(|pool| sums.get(pool).line(days.get(pool))))
     }
 }

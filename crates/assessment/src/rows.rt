@@ -2,24 +2,13 @@
 ghost use Rattle.std.specs.Prelude.{◌≡◌, MatchBool, MatchOption};
 ghost use Rattle.assessment.specs.Lines.{figures_in, PoolWithin, RowWithin};
 
-use crate::day_result::{DayFigures, DayResult, DayRow, PoolFigures};
+use crate::day_result::{DayResult, DayRow, PoolFigures};
+use pools::pool::Pool;
 
 const MOST_WATTS: u32 = 2_000_000_000;
 
-// What an empty place counts. By hand: a table by pool has no Default, as most entries have none.
-const NOTHING: DayFigures = DayFigures {
-    generic: PoolFigures {
-        obligation: 0,
-        availability: 0,
-    },
-    flexible: PoolFigures {
-        obligation: 0,
-        availability: 0,
-    },
-};
-
-fn pool_within(figures: &PoolFigures) -> bool
-    ensures { MatchBool result (PoolWithin figures.now) (PoolWithin figures.now → ⊥) }
+fn pool_within(figures: PoolFigures) -> bool
+    ensures { MatchBool result (PoolWithin figures) (PoolWithin figures → ⊥) }
 {
     figures.availability <= figures.obligation && figures.obligation <= MOST_WATTS
 }
@@ -36,8 +25,8 @@ impl DayResult {
     pub fn of_row(row: DayRow) -> Option<DayResult>
         ensures { MatchOption result (RowWithin row → ⊥) (λ d. d.figures ≡ figures_in row) }
     {
-        let figures = row.unwrap_or(NOTHING);
-        if !pool_within(&figures.generic) || !pool_within(&figures.flexible) {
+        let figures = row.unwrap_or_default();
+        if !Pool::ALL.iter().all(|pool| pool_within(figures.get(*pool))) {
             return None;
         }
         Some(DayResult { figures })

@@ -4,6 +4,7 @@ ghost use Rattle.assessment.specs.Rules.{Rule, EconomicWithin, ScheduledWithin, 
 
 use crate::category::Category;
 use crate::settings::TradeDay;
+use crate::submission::Bid;
 
 // A rule's meaning is a function of the rule alone, so equal questions have
 // equal answers; the laws are what else every rule owes.
@@ -14,9 +15,9 @@ pub trait AvailabilityRule {
     fn assesses(&self, day: &TradeDay, category: Category, hour: u32) -> bool
         ensures { result ≡ (means self.now).assesses day.now.settings.month category.number day.now.day hour };
 
-    // What the rule takes towards the obligation, in kW: economic, then self-scheduled.
-    fn take(&self, obligation: u32, economic: u32, self_scheduled: u32) -> (u32, u32)
-        ensures { result ≡ (means self.now).takes obligation economic self_scheduled };
+    // What the rule takes of the bid towards the obligation, in kW: economic, then self-scheduled.
+    fn take(&self, obligation: u32, bid: Bid) -> (u32, u32)
+        ensures { result ≡ (means self.now).takes obligation bid.economic bid.self_scheduled };
 
     ghost economic: { (x : Self) → EconomicWithin (means x) };
 
@@ -39,7 +40,7 @@ impl<R: AvailabilityRule> AvailabilityRule for &R {
         (**self).assesses(day, category, hour)
     }
 
-    fn take(&self, obligation: u32, economic: u32, self_scheduled: u32) -> (u32, u32) {
-        (**self).take(obligation, economic, self_scheduled)
+    fn take(&self, obligation: u32, bid: Bid) -> (u32, u32) {
+        (**self).take(obligation, bid)
     }
 }

@@ -1,4 +1,4 @@
-// The rules of the two pools, which every assessment asks together.
+// The rules of the two pools, which every assessment asks together. No table by pool, as each is of its own type.
 use crate::flexible_rule::FlexibleRule;
 use crate::generic_rule::GenericRule;
 

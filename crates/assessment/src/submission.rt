@@ -1,6 +1,8 @@
 // A resource's day as it is handed in, in kW: plain numbers, not yet checked.
 ghost use Rattle.std.specs.Prelude.{◌≡◌};
 
+use thiserror::Error;
+
 // What is offered into a market in an hour.
 #[derive(Clone, Copy, PartialEq, Eq, Debug)]
 pub struct Bid {
@@ -33,6 +35,17 @@ pub struct Showing {
     pub exempt: u32,
 }
 
+impl Showing {
+    ghost use Rattle.assessment.specs.Days.{net};
+
+    // What is shown less what is exempt.
+    pub(crate) fn net(self) -> u32
+        ensures { result ≡ net self }
+    {
+        self.shown.saturating_sub(self.exempt)
+    }
+}
+
 #[derive(Clone, Copy, PartialEq, Eq, Debug)]
 pub struct DaySubmission {
     // Each pool's showing by its name: a table by pool would be no plainer beside the hours.
@@ -42,10 +55,23 @@ pub struct DaySubmission {
     pub hours: [HourBids; 24],
 }
 
+impl DaySubmission {
+    ghost use Rattle.assessment.specs.Days.{larger_net};
+
+    pub(crate) fn larger_net(&self) -> u64
+        ensures { result ≡ larger_net self.now }
+    {
+        u64::from(self.generic.net().max(self.flexible.net()))
+    }
+}
+
 // What a day submission breaks, in the order in which it is tested.
-#[derive(Clone, Copy, PartialEq, Eq, Debug)]
+#[derive(Clone, Copy, PartialEq, Eq, Debug, Drop, Error)]
 pub enum DayBreach {
+    #[error("a showing or bid is over the limit")]
     KilowattsOverLimit,
+    #[error("an exemption is over its showing")]
     ExemptionOverShowing,
+    #[error("flexible capacity is shown without a category")]
     FlexibleInCategory0,
 }

@@ -1,7 +1,7 @@
 // Known figures and limits at their edges, through the public calls.
 use crate::category::Category;
 use crate::day_record::DayRecord;
-use crate::day_result::{DayFigures, DayRow, PoolFigures};
+use crate::day_result::{DAY_PLACES, DayFigures, DayRow, PoolFigures};
 use crate::rule_pair::SHIPPED_RULES;
 use crate::settings::MonthSettings;
 use crate::submission::{Bid, DayBreach, DaySubmission, HourBids, Showing};
@@ -69,10 +69,11 @@ fn month_limits(rt: HostRuntime) {
     }
 }
 
-// What a day of this category breaks; None where it is taken, or where the category is none.
-fn breach(category: u32, day: DaySubmission) -> Option<DayBreach> {
+// What is broken by a day of this category; None where it is taken, or where there is no such day or category.
+fn breach(category: u32, submission: DaySubmission) -> Option<DayBreach> {
+    let monday = MonthSettings::new(JUNE)?.day(4)?;
     let category = Category::try_from(category).ok()?;
-    DayRecord::new(category, &day).err()
+    DayRecord::new(monday, category, &submission).err()
 }
 
 #[test]
@@ -120,10 +121,10 @@ fn partly_overlapping_windows(rt: HostRuntime) -> Result<(), Fail> {
         economic: 0,
         self_scheduled: 1000,
     };
-    let submitted = DayRecord::new(peak, &submission(net(2000), net(1000), bid)).map_err(
+    let submitted = DayRecord::new(monday, peak, &submission(net(2000), net(1000), bid)).map_err(
         |_| Fail::new("the day is refused"),
     )?;
-    let figures = SHIPPED_RULES.assess_day(&monday, &submitted).figures;
+    let figures = SHIPPED_RULES.assess_day(&submitted).figures;
     assert_eq!(rt; figures.generic.obligation, 1_166_666);
     assert_eq!(rt; figures.generic.availability, 833_333);
     assert_eq!(rt; figures.flexible.obligation, 833_333);
@@ -137,10 +138,7 @@ fn row(obligation: u32, availability: u32) -> DayRow {
             obligation,
             availability,
         },
-        flexible: PoolFigures {
-            obligation: 0,
-            availability: 0,
-        },
+        flexible: PoolFigures::default(),
     })
 }
 
@@ -148,7 +146,7 @@ fn row(obligation: u32, availability: u32) -> DayRow {
 fn generic_line(day: DayRow) -> Option<(u8, u64)> {
     let june = MonthSettings::new(JUNE)?;
     let category = Category::try_from(0).ok()?;
-    let mut rows = [None; 31];
+    let mut rows = [None; DAY_PLACES];
     rows[3] = day;
     let line = SHIPPED_RULES.month_lines(&june, category, &rows)?.generic;
     Some((line.state.letter(), line.quantity))

@@ -1,8 +1,10 @@
 // What a pool comes to over some hours of a day.
 ghost use Rattle.std.specs.Prelude.{◌≡◌, ◌+◌, ◌*◌, ◌≤◌};
 
+use std::ops::Add;
+
 // The assessed hours, the kWh owed in them, and the kWh that each market gave.
-#[derive(Clone, Copy)]
+#[derive(Clone, Copy, PartialEq, Eq, Debug)]
 pub struct PoolTotals {
     pub hours: u64,
     pub owed: u64,
@@ -14,21 +16,32 @@ pub struct PoolTotals {
     ghost real_time_within: { real_time ≤ owed },
 }
 
-impl PoolTotals {
+// By hand, as for a struct with ghost fields it cannot be derived.
+impl Default for PoolTotals {
+    ghost use Rattle.assessment.specs.Totals.{totals_of, totals_none};
+
+    ghost is_default = { λ t. totals_of t ≡ totals_none };
+
+    fn default() -> PoolTotals {
+        PoolTotals {
+            hours: 0,
+            owed: 0,
+            day_ahead: 0,
+            real_time: 0,
+        }
+    }
+}
+
+impl Add for PoolTotals {
     ghost use Rattle.assessment.specs.Totals.{totals_add, totals_of};
 
-    // By hand, as for a struct with ghost fields no Default is derived.
-    pub(crate) const NONE: PoolTotals = PoolTotals {
-        hours: 0,
-        owed: 0,
-        day_ahead: 0,
-        real_time: 0,
-    };
+    type Output = PoolTotals;
 
-    pub(crate) fn plus(self, other: PoolTotals) -> PoolTotals
-        requires { self.hours + other.hours ≤ 24 }
-        ensures { totals_of result ≡ totals_add (totals_of self) (totals_of other) }
-    {
+    ghost can_add = { λ a b. a.hours + b.hours ≤ 24 };
+
+    ghost add_gives = { λ a b r. totals_of r ≡ totals_add (totals_of a) (totals_of b) };
+
+    fn add(self, other: PoolTotals) -> PoolTotals {
         PoolTotals {
             hours: self.hours + other.hours,
             owed: self.owed + other.owed,

@@ -1,11 +1,10 @@
 -- What is read from a day's figures and from a month's lines.
 use Rattle.std.specs.Prelude.{◌≡◌, ℕ, ◌+◌, ◌*◌, ◌/◌, ◌^◌, ◌≤◌, cond, ◌==◌}
-use Rattle.assessment.specs.declared.day_result.PoolFigures.{PoolFigures}
-use Rattle.assessment.specs.Figures.{DayFigures}
+use Rattle.assessment.specs.Figures.{PoolFigures, DayFigures}
 use Rattle.assessment.specs.declared.line.Line.{Line}
 use Rattle.examples.specs.declared.refusal.Refusal.{Refusal}
 use Rattle.examples.specs.declared.refusal.Refusal.TheVariants.{TooLarge}
-use Rattle.examples.specs.declared.reading.Watts.{Watts}
+use Rattle.pools.specs.PerPool.{entry_of}
 use Rattle.examples.specs.declared.reading.Part.{Part}
 use Rattle.examples.specs.declared.reading.Part.TheVariants as part
 use Rattle.examples.specs.declared.reading.DayReading.{DayReading}
@@ -29,21 +28,16 @@ ShareRefused availability e = (e ≡ TooLarge) × TooMany availability
 abbrev pub average : ℕ → ℕ → ℕ
 average watts days = cond (days == 0) 0 (watts / days)
 
--- a pool's figures of a day, as watts
-abbrev pub watts_of : PoolFigures → Watts
-watts_of f = record { obligation = f.obligation; availability = f.availability }
-
 -- a day's watts in a pool, or in both together
-abbrev pub in_part : DayFigures → Part → Watts
-in_part f part.Generic = watts_of f.generic
-in_part f part.Flexible = watts_of f.flexible
+abbrev pub in_part : DayFigures → Part → PoolFigures
+in_part f (part.Of pool) = entry_of f pool
 in_part f part.Combined = record {
   obligation = f.generic.obligation + f.flexible.obligation;
   availability = f.generic.availability + f.flexible.availability;
 }
 
 -- what each reading tells of them
-abbrev pub from_day : Watts → DayReading → ℕ
+abbrev pub from_day : PoolFigures → DayReading → ℕ
 from_day w day.Obligation = w.obligation
 from_day w day.Availability = w.availability
 from_day w day.Share = millionths w.availability w.obligation

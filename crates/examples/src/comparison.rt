@@ -50,7 +50,7 @@ pub struct Tally {
 fn raised(count: u32, test: bool) -> u32
     ensures { result ≡ raised_if count test }
 {
-    if test { count.saturating_add(1) } else { count }
+    count.saturating_add(u32::from(test))
 }
 
 impl Tally {

@@ -9,6 +9,7 @@ use crate::published::{
 };
 use crate::reading::{DayReading, Part};
 use assessment::submission::Bid;
+use pools::pool::Pool;
 
 pub static DAY_EXAMPLES: [Example<PlannedDay, DayReading>; 10] = [
     Example {
@@ -25,25 +26,25 @@ pub static DAY_EXAMPLES: [Example<PlannedDay, DayReading>; 10] = [
         },
         checks: &[
             Check {
-                part: Part::Generic,
+                part: Part::Of(Pool::Generic),
                 reading: DayReading::Obligation,
                 exact: 1_000_000,
                 published: Some(MW_1),
             },
             Check {
-                part: Part::Generic,
+                part: Part::Of(Pool::Generic),
                 reading: DayReading::Availability,
                 exact: 0,
                 published: Some(MW_0),
             },
             Check {
-                part: Part::Flexible,
+                part: Part::Of(Pool::Flexible),
                 reading: DayReading::Obligation,
                 exact: 0,
                 published: None,
             },
             Check {
-                part: Part::Flexible,
+                part: Part::Of(Pool::Flexible),
                 reading: DayReading::Availability,
                 exact: 0,
                 published: None,
@@ -68,25 +69,25 @@ pub static DAY_EXAMPLES: [Example<PlannedDay, DayReading>; 10] = [
         },
         checks: &[
             Check {
-                part: Part::Generic,
+                part: Part::Of(Pool::Generic),
                 reading: DayReading::Obligation,
                 exact: 0,
                 published: None,
             },
             Check {
-                part: Part::Generic,
+                part: Part::Of(Pool::Generic),
                 reading: DayReading::Availability,
                 exact: 0,
                 published: None,
             },
             Check {
-                part: Part::Flexible,
+                part: Part::Of(Pool::Flexible),
                 reading: DayReading::Obligation,
                 exact: 1_000_000,
                 published: Some(MW_1),
             },
             Check {
-                part: Part::Flexible,
+                part: Part::Of(Pool::Flexible),
                 reading: DayReading::Availability,
                 exact: 1_000_000,
                 published: Some(MW_1),
@@ -111,25 +112,25 @@ pub static DAY_EXAMPLES: [Example<PlannedDay, DayReading>; 10] = [
         },
         checks: &[
             Check {
-                part: Part::Generic,
+                part: Part::Of(Pool::Generic),
                 reading: DayReading::Obligation,
                 exact: 1_000_000,
                 published: Some(MW_1),
             },
             Check {
-                part: Part::Generic,
+                part: Part::Of(Pool::Generic),
                 reading: DayReading::Availability,
                 exact: 1_000_000,
                 published: Some(MW_1),
             },
             Check {
-                part: Part::Flexible,
+                part: Part::Of(Pool::Flexible),
                 reading: DayReading::Obligation,
                 exact: 0,
                 published: None,
             },
             Check {
-                part: Part::Flexible,
+                part: Part::Of(Pool::Flexible),
                 reading: DayReading::Availability,
                 exact: 0,
                 published: None,
@@ -154,37 +155,37 @@ pub static DAY_EXAMPLES: [Example<PlannedDay, DayReading>; 10] = [
         },
         checks: &[
             Check {
-                part: Part::Generic,
+                part: Part::Of(Pool::Generic),
                 reading: DayReading::Obligation,
                 exact: 1_000_000,
                 published: None,
             },
             Check {
-                part: Part::Generic,
+                part: Part::Of(Pool::Generic),
                 reading: DayReading::Availability,
                 exact: 1_000_000,
                 published: None,
             },
             Check {
-                part: Part::Flexible,
+                part: Part::Of(Pool::Flexible),
                 reading: DayReading::Obligation,
                 exact: 1_000_000,
                 published: None,
             },
             Check {
-                part: Part::Flexible,
+                part: Part::Of(Pool::Flexible),
                 reading: DayReading::Availability,
                 exact: 0,
                 published: None,
             },
             Check {
-                part: Part::Generic,
+                part: Part::Of(Pool::Generic),
                 reading: DayReading::Share,
                 exact: 1_000_000,
                 published: Some(PER_CENT_100),
             },
             Check {
-                part: Part::Flexible,
+                part: Part::Of(Pool::Flexible),
                 reading: DayReading::Share,
                 exact: 0,
                 published: Some(PER_CENT_0),
@@ -209,31 +210,31 @@ pub static DAY_EXAMPLES: [Example<PlannedDay, DayReading>; 10] = [
         },
         checks: &[
             Check {
-                part: Part::Generic,
+                part: Part::Of(Pool::Generic),
                 reading: DayReading::Obligation,
                 exact: 1_166_666,
                 published: Some(MW_1_167),
             },
             Check {
-                part: Part::Generic,
+                part: Part::Of(Pool::Generic),
                 reading: DayReading::Availability,
                 exact: 833_333,
                 published: Some(MW_0_833),
             },
             Check {
-                part: Part::Flexible,
+                part: Part::Of(Pool::Flexible),
                 reading: DayReading::Obligation,
                 exact: 833_333,
                 published: Some(MW_0_833),
             },
             Check {
-                part: Part::Flexible,
+                part: Part::Of(Pool::Flexible),
                 reading: DayReading::Availability,
                 exact: 0,
                 published: Some(MW_0),
             },
             Check {
-                part: Part::Generic,
+                part: Part::Of(Pool::Generic),
                 reading: DayReading::Share,
                 exact: 714_285,
                 published: Some(PER_CENT_71_43),
@@ -258,25 +259,25 @@ pub static DAY_EXAMPLES: [Example<PlannedDay, DayReading>; 10] = [
         },
         checks: &[
             Check {
-                part: Part::Generic,
+                part: Part::Of(Pool::Generic),
                 reading: DayReading::Obligation,
                 exact: 20_000_000,
                 published: Some(MW_20),
             },
             Check {
-                part: Part::Generic,
+                part: Part::Of(Pool::Generic),
                 reading: DayReading::Availability,
                 exact: 20_000_000,
                 published: None,
             },
             Check {
-                part: Part::Flexible,
+                part: Part::Of(Pool::Flexible),
                 reading: DayReading::Obligation,
                 exact: 5_000_000,
                 published: Some(MW_5),
             },
             Check {
-                part: Part::Flexible,
+                part: Part::Of(Pool::Flexible),
                 reading: DayReading::Availability,
                 exact: 5_000_000,
                 published: None,
@@ -301,25 +302,25 @@ pub static DAY_EXAMPLES: [Example<PlannedDay, DayReading>; 10] = [
         },
         checks: &[
             Check {
-                part: Part::Generic,
+                part: Part::Of(Pool::Generic),
                 reading: DayReading::Obligation,
                 exact: 50_000_000,
                 published: Some(MW_50),
             },
             Check {
-                part: Part::Generic,
+                part: Part::Of(Pool::Generic),
                 reading: DayReading::Availability,
                 exact: 50_000_000,
                 published: Some(MW_50),
             },
             Check {
-                part: Part::Flexible,
+                part: Part::Of(Pool::Flexible),
                 reading: DayReading::Obligation,
                 exact: 50_000_000,
                 published: Some(MW_50),
             },
             Check {
-                part: Part::Flexible,
+                part: Part::Of(Pool::Flexible),
                 reading: DayReading::Availability,
                 exact: 0,
                 published: Some(MW_0),
@@ -341,25 +342,25 @@ pub static DAY_EXAMPLES: [Example<PlannedDay, DayReading>; 10] = [
         },
         checks: &[
             Check {
-                part: Part::Generic,
+                part: Part::Of(Pool::Generic),
                 reading: DayReading::Obligation,
                 exact: 28_571_428,
                 published: None,
             },
             Check {
-                part: Part::Generic,
+                part: Part::Of(Pool::Generic),
                 reading: DayReading::Availability,
                 exact: 0,
                 published: None,
             },
             Check {
-                part: Part::Flexible,
+                part: Part::Of(Pool::Flexible),
                 reading: DayReading::Obligation,
                 exact: 71_428_571,
                 published: None,
             },
             Check {
-                part: Part::Flexible,
+                part: Part::Of(Pool::Flexible),
                 reading: DayReading::Availability,
                 exact: 0,
                 published: None,
@@ -393,31 +394,31 @@ pub static DAY_EXAMPLES: [Example<PlannedDay, DayReading>; 10] = [
         },
         checks: &[
             Check {
-                part: Part::Generic,
+                part: Part::Of(Pool::Generic),
                 reading: DayReading::Obligation,
                 exact: 100_000_000,
                 published: None,
             },
             Check {
-                part: Part::Generic,
+                part: Part::Of(Pool::Generic),
                 reading: DayReading::Availability,
                 exact: 80_000_000,
                 published: None,
             },
             Check {
-                part: Part::Flexible,
+                part: Part::Of(Pool::Flexible),
                 reading: DayReading::Obligation,
                 exact: 0,
                 published: None,
             },
             Check {
-                part: Part::Flexible,
+                part: Part::Of(Pool::Flexible),
                 reading: DayReading::Availability,
                 exact: 0,
                 published: None,
             },
             Check {
-                part: Part::Generic,
+                part: Part::Of(Pool::Generic),
                 reading: DayReading::Share,
                 exact: 800_000,
                 published: Some(PER_CENT_80),
@@ -442,25 +443,25 @@ pub static DAY_EXAMPLES: [Example<PlannedDay, DayReading>; 10] = [
         },
         checks: &[
             Check {
-                part: Part::Generic,
+                part: Part::Of(Pool::Generic),
                 reading: DayReading::Obligation,
                 exact: 30_000_000,
                 published: None,
             },
             Check {
-                part: Part::Generic,
+                part: Part::Of(Pool::Generic),
                 reading: DayReading::Availability,
                 exact: 30_000_000,
                 published: None,
             },
             Check {
-                part: Part::Flexible,
+                part: Part::Of(Pool::Flexible),
                 reading: DayReading::Obligation,
                 exact: 70_000_000,
                 published: None,
             },
             Check {
-                part: Part::Flexible,
+                part: Part::Of(Pool::Flexible),
                 reading: DayReading::Availability,
                 exact: 10_000_000,
                 published: None,

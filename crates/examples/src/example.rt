@@ -19,7 +19,8 @@ pub trait Case<R: Reading> {
         ensures { MatchResult result (λ w. w ≡ figures_of self.now settings.now.month) (refuses self.now settings.now.month) };
 }
 
-// What is read, what the rules give exactly, and what was published.
+// What is read, what the rules give exactly, and what was published. Nothing is derived: with
+// a field of an associated type there is no Copy, and no code compares or prints a check.
 pub struct Check<R: Reading> {
     pub part: R::Part,
     pub reading: R,
@@ -42,6 +43,7 @@ impl<R: Reading> Check<R> {
     }
 }
 
+// Nothing is derived, as for its checks.
 pub struct Example<C: 'static, R: Reading + 'static> {
     pub name: &'static str,
     pub month: TradeMonth,

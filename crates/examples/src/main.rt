@@ -21,7 +21,7 @@ use day_examples::DAY_EXAMPLES;
 use month_examples::MONTH_EXAMPLES;
 use report::{HEAD, report};
 
-fn run(rt: &HostRuntime) -> anyhow::Result<()> {
+fn run(rt: &(impl Print + AllocGlobal)) -> anyhow::Result<()> {
     rt.println(HEAD)?;
     let tally = report(rt, &DAY_EXAMPLES, Tally::default())?;
     let tally = report(rt, &MONTH_EXAMPLES, tally)?;

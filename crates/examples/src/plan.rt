@@ -13,6 +13,7 @@ use assessment::settings::MonthSettings;
 use assessment::submission::{Bid, DaySubmission, HourBids, Showing};
 use std::array;
 
+// By hand, as a static table of examples calls no default.
 pub const NOTHING: Bid = Bid {
     economic: 0,
     self_scheduled: 0,
@@ -29,7 +30,7 @@ pub enum Offer {
     Until(u32, Bid, Bid),
 }
 
-// A resource's day: its category, the kW shown in each pool, and its bids.
+// A resource's day: its category, the kW shown in each pool by its name as in a day submission, and its bids.
 #[derive(Clone, Copy, PartialEq, Eq, Debug)]
 pub struct Plan {
     pub category: u32,
@@ -88,10 +89,10 @@ impl PlannedDay {
         ensures { MatchResult result (λ d. d.figures ≡ planned settings.now.month self.now.day self.now.plan) (DayRefused settings.now.month self.now.day self.now.plan) }
     {
         let trade_day = settings.day(self.day).ok_or(Refusal::NoSuchDay)?;
-        let category = Category::try_from(self.plan.category)?;
+        let category = Category::try_from(self.plan.category).map_err(|_| Refusal::NoSuchCategory)?;
         let submission = self.plan.submission();
-        let submitted = DayRecord::new(category, &submission)?;
-        Ok(SHIPPED_RULES.assess_day(&trade_day, &submitted))
+        let submitted = DayRecord::new(trade_day, category, &submission)?;
+        Ok(SHIPPED_RULES.assess_day(&submitted))
     }
 }
 

@@ -4,37 +4,33 @@ ghost use Rattle.examples.specs.Measures.{day_measure, line_measure};
 ghost use Rattle.examples.specs.declared.measure.Measure.{Measure};
 ghost use Rattle.examples.specs.declared.refusal.Refusal.{Refusal};
 ghost use Rattle.pools.specs.PerPool.{entry_of};
-ghost use Rattle.examples.specs.Readings.{millionths, TooMany, average, watts_of, in_part, from_day, from_line, ShareRefused};
+ghost use Rattle.examples.specs.Readings.{millionths, TooMany, average, in_part, from_day, from_line, ShareRefused};
 
 use crate::measure::Measure;
 use crate::refusal::Refusal;
-use assessment::day_result::{DayFigures, PoolFigures};
+use assessment::day_result::{DayFigures, Watts};
 use assessment::line::{Line, LineState, MonthLines};
 use pools::pool::Pool;
 use std::fmt;
 
-// The pools of a day, and the two together.
+// A pool of a day, or the two together.
 #[derive(Clone, Copy, Debug, PartialEq, Eq)]
 pub enum Part {
-    Generic,
-    Flexible,
+    Of(Pool),
     Combined,
 }
 
 impl From<Pool> for Part {
     fn from(pool: Pool) -> Part {
-        match pool {
-            Pool::Generic => Part::Generic,
-            Pool::Flexible => Part::Flexible,
-        }
+        Part::Of(pool)
     }
 }
 
 impl fmt::Display for Part {
     fn fmt<W: fmt::Write>(&self, f: &mut fmt::Formatter<W>) -> fmt::Result {
         f.pad(match self {
-            Part::Generic => "generic",
-            Part::Flexible => "flexible",
+            Part::Of(Pool::Generic) => "generic",
+            Part::Of(Pool::Flexible) => "flexible",
             Part::Combined => "combined",
         })
     }
@@ -82,24 +78,6 @@ pub enum LineReading {
     Quantity,
 }
 
-// The figures of one pool, or of both together, which need more than 32 bits.
-#[derive(Clone, Copy, Debug, PartialEq, Eq)]
-pub struct Watts {
-    pub obligation: u64,
-    pub availability: u64,
-}
-
-impl From<PoolFigures> for Watts {
-    ghost from_gives = { λ figures r. r ≡ watts_of figures };
-
-    fn from(figures: PoolFigures) -> Watts {
-        Watts {
-            obligation: u64::from(figures.obligation),
-            availability: u64::from(figures.availability),
-        }
-    }
-}
-
 // Availability in millionths of the obligation; None where that passes 64 bits.
 fn share(availability: u64, obligation: u64) -> Option<u64>
     ensures { MatchOption result (TooMany availability) (λ x. x ≡ millionths availability obligation) }
@@ -114,25 +92,26 @@ fn average_over(watts: u64, days: u32) -> u64
     watts.checked_div(u64::from(days)).unwrap_or(0)
 }
 
-// Watts of both pools.
+// Watts of both pools. A call of its own, since there the check knows that both are of 32 bits.
 fn together(generic: u32, flexible: u32) -> u64
     ensures { result ≡ generic + flexible }
 {
     u64::from(generic) + u64::from(flexible)
 }
 
+// The figures of a pool, or of both together.
 fn watts_in(figures: &DayFigures, part: Part) -> Watts
     ensures { result ≡ in_part figures.now part }
 {
-    let generic = figures.generic;
-    let flexible = figures.flexible;
     match part {
-        Part::Generic => generic.into(),
-        Part::Flexible => flexible.into(),
-        Part::Combined => Watts {
-            obligation: together(generic.obligation, flexible.obligation),
-            availability: together(generic.availability, flexible.availability),
-        },
+        Part::Of(pool) => figures.get(pool).into(),
+        Part::Combined => {
+            let DayFigures { generic, flexible } = *figures;
+            Watts {
+                obligation: together(generic.obligation, flexible.obligation),
+                availability: together(generic.availability, flexible.availability),
+            }
+        }
     }
 }
 

@@ -11,7 +11,7 @@ pub const HEAD: &str =
     "figure                                worked out        expected   published";
 
 fn report_check<R: Reading>(
-    rt: &HostRuntime,
+    rt: &(impl Print + AllocGlobal),
     worked: &R::Worked,
     check: &Check<R>,
     tally: Tally,
@@ -34,7 +34,7 @@ fn report_check<R: Reading>(
 }
 
 pub(crate) fn report<C: Case<R>, R: Reading>(
-    rt: &HostRuntime,
+    rt: &(impl Print + AllocGlobal),
     examples: &[Example<C, R>],
     mut tally: Tally,
 ) -> anyhow::Result<Tally> {

@@ -10,7 +10,7 @@ use crate::plan::{Plan, PlannedDay};
 use crate::reading::LineReading;
 use crate::refusal::Refusal;
 use assessment::category::Category;
-use assessment::day_result::DayRow;
+use assessment::day_result::{DAY_PLACES, DayRow};
 use assessment::line::MonthLines;
 use assessment::rule_pair::SHIPPED_RULES;
 use assessment::settings::MonthSettings;
@@ -28,7 +28,7 @@ impl Stretch {
     fn has(&self, day: u32) -> bool
         ensures { result ≡ covers self.now day }
     {
-        self.first <= day && day <= self.last
+        (self.first..=self.last).contains(&day)
     }
 }
 
@@ -62,12 +62,12 @@ impl PlannedMonth {
     }
 
     // The rows of the days 1 to 31, or the first refusal.
-    fn rows(&self, settings: &MonthSettings) -> Result<[DayRow; 31], Refusal>
+    fn rows(&self, settings: &MonthSettings) -> Result<[DayRow; DAY_PLACES], Refusal>
         ensures { MatchResult result (λ all. all ≡ rows_of settings.now.month self.now.stretches.now) (RowsRefused settings.now.month self.now.stretches.now) }
     {
         // Not try_from_fn: its contract does not say which month and stretches its calls were made with.
         // from_fn hands a usize; below 31 it fits a u32, for which there is no From.
-        let rows: [_; 31] = array::from_fn(|past| self.row_on(settings, past as u32 + 1));
+        let rows: [_; DAY_PLACES] = array::from_fn(|past| self.row_on(settings, past as u32 + 1));
         rows.try_map(|row| row)
     }
 }
@@ -79,7 +79,7 @@ impl Case<LineReading> for PlannedMonth {
 
     // The two lines of the resource, by the two rules that ship.
     fn work(&self, settings: &MonthSettings) -> Result<MonthLines, Refusal> {
-        let category = Category::try_from(self.category)?;
+        let category = Category::try_from(self.category).map_err(|_| Refusal::NoSuchCategory)?;
         let rows = self.rows(settings)?;
         let lines = SHIPPED_RULES.month_lines(settings, category, &rows);
         lines.ok_or(Refusal::RowsPastLimits)

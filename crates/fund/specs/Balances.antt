@@ -2,25 +2,15 @@
 use Rattle.std.specs.Prelude.{ℕ, ◌≤◌}
 use Rattle.pools.specs.declared.pool.Pool.{Pool}
 use Rattle.pools.specs.declared.pool.Pool.TheVariants.{Generic, Flexible}
+use Rattle.pools.specs.declared.per_pool.PerPool.{PerPool}
 
 -- The most cents that a balance may have.
 abbrev pub limit : ℕ
 limit = 7000000000000
 
 -- An amount for each pool.
-pub record Balances : Type 0 where
-  pub generic : ℕ
-  pub flexible : ℕ
-
--- The amount for one pool.
-abbrev pub at : Balances → Pool → ℕ
-at b Generic = b.generic
-at b Flexible = b.flexible
-
--- The same amounts, but n for one pool.
-abbrev pub put : Balances → Pool → ℕ → Balances
-put b Generic n = record { generic = n; flexible = b.flexible }
-put b Flexible n = record { generic = b.generic; flexible = n }
+abbrev pub Balances : Type 0
+Balances = PerPool ℕ
 
 -- Both amounts are within the limit.
 pub record Within (b : Balances) : Type 0 where

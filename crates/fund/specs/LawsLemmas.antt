@@ -2,23 +2,25 @@
 use Rattle.std.specs.Prelude.{◌≡◌, ℕ, ◌+◌, ◌-◌, ◌≤◌, Bool, true, false, cond, List, [], ◌∷◌, length, nat_lt, refl}
 use Rattle.std.proofs.Common.{sym, subst, ◌∙◌, arith, ltb-false}
 use Rattle.fund.specs.Meaning.{FundMeaning, Lawful, Call, stands, posts_in, posts_out, rules_off, Takes, after, Posted, binding_after}
+use Rattle.fund.specs.MeaningLemmas.{unmoved}
 use Rattle.fund.specs.Laws.{Postings, Run, end, binding_in, binding_out, with_room, Roomy, RunsGoOn, Conserves, AdvisoryLeavesBinding, RulingOffMakesRoom, FourPostingsHavePlaces}
-use Rattle.fund.specs.PostingsLemmas.{more_at, less_at, less_fits}
+use Rattle.fund.specs.PostingsLemmas.{allows_at, after_at}
 use Rattle.pools.specs.declared.pool.Pool.{Pool}
 use Rattle.fund.specs.declared.standing.Standing.{Standing}
 use Rattle.fund.specs.declared.standing.Standing.TheVariants.{Binding, Advisory}
+use Rattle.fund.specs.declared.posting.Direction.TheVariants.{In, Out}
 
 -- a posting in the standing d, with the binding balances f and n shown in p
 step_in : (d : Standing) (f : Pool → ℕ) (n : ℕ) (p q : Pool) (a : ℕ) → (d ≡ Binding → n ≡ f p) → f q + binding_in d (posts_in p a) q ≡ binding_out d (posts_in p a) q + binding_after d f p (n + a) q
-step_in Binding f n p q a h = let e : n ≡ f p = h refl in rw e (omega (arith, more_at f q p a))
+step_in Binding f n p q a h = let e : n ≡ f p = h refl in rw e (omega (arith, after_at In f q p a))
 step_in Advisory f n p q a h = omega arith
 
 step_out : (d : Standing) (f : Pool → ℕ) (n : ℕ) (p q : Pool) (a : ℕ) → (d ≡ Binding → n ≡ f p) → a ≤ n → f q + binding_in d (posts_out p a) q ≡ binding_out d (posts_out p a) q + binding_after d f p (n - a) q
-step_out Binding f n p q a h k = let e : n ≡ f p = h refl in rw e (omega (arith, less_at f q p a, less_fits f q p a (omega arith)))
+step_out Binding f n p q a h k = let e : n ≡ f p = h refl in rw e (omega (arith, after_at Out f q p a, allows_at Out f q p a (omega arith) (omega arith)))
 step_out Advisory f n p q a h k = omega arith
 
 none_moves : (d : Standing) (f : Pool → ℕ) (p q : Pool) (n : ℕ) → d ≡ Advisory → binding_after d f p n q ≡ f q
-none_moves Binding f p q n e = absurd (let z : ◌≡◌ {A = ℕ} 0 1 = cc in omega arith)
+none_moves Binding f p q n e = absurd (cc)
 none_moves Advisory f p q n e = refl
 
 pub runs_go_on : {S : Type 0} (m : FundMeaning S) → RunsGoOn m
@@ -46,30 +48,33 @@ module _ {S : Type 0} (m : FundMeaning S) (sound : S → Type 0) (law : Lawful m
   still : (s t : S) (p : Pool) (n : ℕ) → m.standing s ≡ Advisory → Posted m s t p n → (m.standing t ≡ Advisory) × ((q : Pool) → m.binding t q ≡ m.binding s q)
   still s t p n e h = (h.standing ∙ e, λ q. h.binding q ∙ none_moves (m.standing s) (m.binding s) p q n e)
 
+  -- what the first of a run of postings leaves
+  record First (s : S) (c : Call) (cs : List Call) : Type 0 where
+    pub stays : sound (after m s c)
+    pub rest : Postings cs
+    pub pool : Pool
+    pub shown : ℕ
+    pub posted : Posted m s (after m s c) pool shown
+
+  first : (s : S) (c : Call) (cs : List Call) → sound s → Postings (c ∷ cs) → Takes m s c → First s c cs
+  first s (stands d) cs k o t = absurd o
+  first s (posts_in p a) cs k o t = let h = law.posted_in s p a k t in record { stays = h.0; rest = o; pool = p; shown = _; posted = h.1 }
+  first s (posts_out p a) cs k o t = let h = law.posted_out s p a k t in record { stays = h.0; rest = o; pool = p; shown = _; posted = h.1 }
+  first s rules_off cs k o t = absurd o
+
   pub advisory_leaves_binding : AdvisoryLeavesBinding m sound
   advisory_leaves_binding s [] k e o r q = refl
-  advisory_leaves_binding s (stands d ∷ cs) k e o r q = absurd o
-  advisory_leaves_binding s (posts_in p a ∷ cs) k e o r q =
-      let h = law.posted_in s p a k r.0 in
-      let w = still s (m.posted_in s p a) p _ e h.1 in
-      advisory_leaves_binding (m.posted_in s p a) cs h.0 w.0 o r.1 q ∙ w.1 q
-  advisory_leaves_binding s (posts_out p a ∷ cs) k e o r q =
-      let h = law.posted_out s p a k r.0 in
-      let w = still s (m.posted_out s p a) p _ e h.1 in
-      advisory_leaves_binding (m.posted_out s p a) cs h.0 w.0 o r.1 q ∙ w.1 q
-  advisory_leaves_binding s (rules_off ∷ cs) k e o r q = absurd o
+  advisory_leaves_binding s (c ∷ cs) k e o r q =
+      let h = first s c cs k o r.0 in
+      let w = still s (after m s c) h.pool h.shown e h.posted in
+      advisory_leaves_binding (after m s c) cs h.stays w.0 h.rest r.1 q ∙ w.1 q
 
   -- each posting uses at most one place
   places_used : (s : S) (cs : List Call) → sound s → Postings cs → Run m s cs → m.free s ≤ m.free (end m s cs) + length cs
   places_used s [] k o r = omega arith
-  places_used s (stands d ∷ cs) k o r = absurd o
-  places_used s (posts_in p a ∷ cs) k o r =
-      let h = law.posted_in s p a k r.0 in
-      omega (arith, h.1.free, places_used (m.posted_in s p a) cs h.0 o r.1)
-  places_used s (posts_out p a ∷ cs) k o r =
-      let h = law.posted_out s p a k r.0 in
-      omega (arith, h.1.free, places_used (m.posted_out s p a) cs h.0 o r.1)
-  places_used s (rules_off ∷ cs) k o r = absurd o
+  places_used s (c ∷ cs) k o r =
+      let h = first s c cs k o r.0 in
+      omega (arith, h.posted.free, places_used (after m s c) cs h.stays h.rest r.1)
 
   pub ruling_off_makes_room : RulingOffMakesRoom m sound
   ruling_off_makes_room s cs k o r few =
@@ -81,7 +86,7 @@ module _ {S : Type 0} (m : FundMeaning S) (sound : S → Type 0) (law : Lawful m
 
   roomy_by : (s : S) (n : ℕ) (b : Bool) → sound s → nat_lt (m.free s) n ≡ b → Roomy m s (cond b (m.ruled_off s) s) n
   roomy_by s n true k e = let h = (law.ruled_off s k).1 in record { unmoved = h.unmoved; free = λ few. omega (arith, h.free, (law.holds s k).sized) }
-  roomy_by s n false k e = record { unmoved = record { shown = λ q. refl; binding = λ q. refl; standing = refl; size = refl; takes_advisory = refl }; free = λ few. omega (arith, ltb-false _ _ e) }
+  roomy_by s n false k e = record { unmoved = unmoved m s; free = λ few. omega (arith, ltb-false _ _ e) }
 
   -- making room makes it, in every state of every lawful book
   pub roomy : (s t : S) (n : ℕ) → sound s → t ≡ with_room m s n → Roomy m s t n

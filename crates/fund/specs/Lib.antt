@@ -10,6 +10,9 @@ pub mod Pages
 pub mod Journal
 pub mod Overlay
 pub mod Overlaid
+pub mod MeaningLemmas
 pub mod LawsLemmas
+pub mod BalancesLemmas
+pub mod BalanceBookLemmas
 pub mod PostingsLemmas
 pub mod JournalLemmas

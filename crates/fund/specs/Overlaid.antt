@@ -1,8 +1,11 @@
 -- The laws of an overlay, from those of the book below it.
 use Rattle.std.specs.Prelude.{◌≡◌, ℕ, ◌+◌, ◌-◌, ◌≤◌, List, [], ◌∷◌, refl}
 use Rattle.std.proofs.Common.{◌∙◌, arith}
-use Rattle.fund.specs.Balances.{Balances, Within, at, put, limit}
-use Rattle.fund.specs.Meaning.{FundMeaning, Lawful, Holds, Stood, Posted, RuledOff, TakesIn, TakesOut, with_at, Call, stands, posts_in, posts_out, rules_off, Takes, after}
+use Rattle.fund.specs.Balances.{Balances, Within, limit}
+use Rattle.fund.specs.BalancesLemmas.{entry_within, within_with, entry_with}
+use Rattle.pools.specs.PerPool.{entry_of, with_entry}
+use Rattle.fund.specs.Meaning.{FundMeaning, Lawful, Holds, Stood, Posted, RuledOff, TakesIn, TakesOut, Call, stands, posts_in, posts_out, rules_off, Takes, after}
+use Rattle.fund.specs.MeaningLemmas.{unmoved}
 use Rattle.fund.specs.Laws.{Run, end}
 use Rattle.fund.specs.Overlay.{Overlaid, OverlaidSound, Showing, lower_book, own_entries, ShowingWithin, overlaid, over, overlay_book, LowerStaysBinding, LowerUntouched}
 use Rattle.fund.specs.LawsLemmas.{sound_after}
@@ -11,32 +14,14 @@ use Rattle.pools.specs.declared.pool.Pool.TheVariants.{Generic, Flexible}
 use Rattle.fund.specs.declared.standing.Standing.{Standing}
 use Rattle.fund.specs.declared.standing.Standing.TheVariants.{Binding, Advisory}
 
-within_at : (e : Balances) → Within e → (q : Pool) → at e q ≤ limit
-within_at e k Generic = k.generic
-within_at e k Flexible = k.flexible
-
-put_within : (e : Balances) (p : Pool) (n : ℕ) → Within e → n ≤ limit → Within (put e p n)
-put_within e Generic n k h = record { generic = h; flexible = k.flexible }
-put_within e Flexible n k h = record { generic = k.generic; flexible = h }
-
-at_put : (e : Balances) (p : Pool) (n : ℕ) (q : Pool) → at (put e p n) q ≡ with_at (at e) p n q
-at_put e Generic n Generic = refl
-at_put e Generic n Flexible = refl
-at_put e Flexible n Generic = refl
-at_put e Flexible n Flexible = refl
-
 module _ {S : Type 0} (m : FundMeaning S) (sound : S → Type 0) (law : Lawful m sound) where
   holds : (v : Showing) (l : S) → sound l → ShowingWithin v → Holds (overlay_book m) (overlaid l v)
   holds lower_book l k w = let h = law.holds l k in record { sized = h.sized; shown = h.shown; binding = h.binding; agrees = h.agrees }
   holds (own_entries e) l k w =
       let h = law.holds l k in
-      record { sized = h.sized; shown = within_at e w; binding = h.binding; agrees = λ b. absurd (let z : ◌≡◌ {A = ℕ} 0 1 = cc in omega arith) }
+      record { sized = h.sized; shown = entry_within e w; binding = h.binding; agrees = λ b. absurd (cc) }
 
-  -- what an overlay shows is within the limit
-  pub overlay_shown_within : (s : Overlaid S) → OverlaidSound sound s → (q : Pool) → (overlay_book m).shown s q ≤ limit
-  overlay_shown_within s k q = (holds s.showing s.lower k.lower k.showing).shown q
-
-  noted : (l : S) (q : Pool) → at (record { generic = m.shown l Generic; flexible = m.shown l Flexible }) q ≡ m.shown l q
+  noted : (l : S) (q : Pool) → entry_of (record { generic = m.shown l Generic; flexible = m.shown l Flexible }) q ≡ m.shown l q
   noted l Generic = refl
   noted l Flexible = refl
 
@@ -52,8 +37,8 @@ module _ {S : Type 0} (m : FundMeaning S) (sound : S → Type 0) (law : Lawful m
   stood Advisory (own_entries e) l k w = (record { lower = k; showing = w }, record { shown = λ q. refl; binding = λ q. refl; standing = refl; size = refl; takes_advisory = refl })
 
   -- one posted entry: nothing else changes
-  entered : (e : Balances) (l : S) (p : Pool) (n : ℕ) → sound l → Within e → n ≤ limit → OverlaidSound sound (overlaid l (own_entries (put e p n))) × Posted (overlay_book m) (overlaid l (own_entries e)) (overlaid l (own_entries (put e p n))) p n
-  entered e l p n k w h = (record { lower = k; showing = put_within e p n w h }, record { shown = at_put e p n; binding = λ q. refl; standing = refl; size = refl; takes_advisory = refl; free = omega arith })
+  entered : (e : Balances) (l : S) (p : Pool) (n : ℕ) → sound l → Within e → n ≤ limit → OverlaidSound sound (overlaid l (own_entries (with_entry e p n))) × Posted (overlay_book m) (overlaid l (own_entries e)) (overlaid l (own_entries (with_entry e p n))) p n
+  entered e l p n k w h = (record { lower = k; showing = within_with e p n w h }, record { shown = entry_with e p n; binding = λ q. refl; standing = refl; size = refl; takes_advisory = refl; free = omega arith })
 
   passed : (l t : S) (p : Pool) (n : ℕ) → sound t × Posted m l t p n → OverlaidSound sound (overlaid t lower_book) × Posted (overlay_book m) (overlaid l lower_book) (overlaid t lower_book) p n
   passed l t p n h = (record { lower = h.0; showing = tt }, record { shown = h.1.shown; binding = h.1.binding; standing = h.1.standing; size = h.1.size; takes_advisory = refl; free = h.1.free })
@@ -64,14 +49,14 @@ module _ {S : Type 0} (m : FundMeaning S) (sound : S → Type 0) (law : Lawful m
 
   posted_out : (v : Showing) (l : S) (p : Pool) (a : ℕ) → sound l → ShowingWithin v → TakesOut (overlay_book m) (overlaid l v) p a → OverlaidSound sound ((overlay_book m).posted_out (overlaid l v) p a) × Posted (overlay_book m) (overlaid l v) ((overlay_book m).posted_out (overlaid l v) p a) p ((overlay_book m).shown (overlaid l v) p - a)
   posted_out lower_book l p a k w t = passed l _ p _ (law.posted_out l p a k (record { place = t.place; covered = t.covered }))
-  posted_out (own_entries e) l p a k w t = entered e l p _ k w (omega (arith, within_at e w p))
+  posted_out (own_entries e) l p a k w t = entered e l p _ k w (omega (arith, entry_within e w p))
 
   ruled_off : (v : Showing) (l : S) → sound l → ShowingWithin v → OverlaidSound sound ((overlay_book m).ruled_off (overlaid l v)) × RuledOff (overlay_book m) (overlaid l v) ((overlay_book m).ruled_off (overlaid l v))
   ruled_off lower_book l k w =
       let h = law.ruled_off l k in
       let u = h.1.unmoved in
       (record { lower = h.0; showing = tt }, record { unmoved = record { shown = u.shown; binding = u.binding; standing = u.standing; size = u.size; takes_advisory = refl }; free = h.1.free })
-  ruled_off (own_entries e) l k w = (record { lower = k; showing = w }, record { unmoved = record { shown = λ q. refl; binding = λ q. refl; standing = refl; size = refl; takes_advisory = refl }; free = omega arith })
+  ruled_off (own_entries e) l k w = (record { lower = k; showing = w }, record { unmoved = unmoved (overlay_book m) (overlaid l (own_entries e)); free = omega arith })
 
   pub overlay_lawful : Lawful (overlay_book m) (OverlaidSound sound)
   overlay_lawful = record {
@@ -103,6 +88,6 @@ module _ {S : Type 0} (m : FundMeaning S) (sound : S → Type 0) (law : Lawful m
 pub lower_untouched : {S : Type 0} (m : FundMeaning S) → LowerUntouched m
 lower_untouched m l e [] o = refl
 lower_untouched m l e (stands d ∷ cs) o = absurd o
-lower_untouched m l e (posts_in p a ∷ cs) o = lower_untouched m l (put e p (at e p + a)) cs o
-lower_untouched m l e (posts_out p a ∷ cs) o = lower_untouched m l (put e p (at e p - a)) cs o
+lower_untouched m l e (posts_in p a ∷ cs) o = lower_untouched m l (with_entry e p (entry_of e p + a)) cs o
+lower_untouched m l e (posts_out p a ∷ cs) o = lower_untouched m l (with_entry e p (entry_of e p - a)) cs o
 lower_untouched m l e (rules_off ∷ cs) o = absurd o

@@ -1,6 +1,7 @@
 -- What the advisory overlay means, by what the book below it means.
 use Rattle.std.specs.Prelude.{◌≡◌, ℕ, ◌+◌, ◌-◌, true, List, Option, Some, None}
-use Rattle.fund.specs.Balances.{Balances, Within, at, put}
+use Rattle.fund.specs.Balances.{Balances, Within}
+use Rattle.pools.specs.PerPool.{entry_of, with_entry}
 use Rattle.fund.specs.Cents.{cents_of}
 use Rattle.fund.specs.Meaning.{FundMeaning, Lawful, Call}
 use Rattle.fund.specs.Laws.{Run, end, Postings}
@@ -53,7 +54,7 @@ module _ {S : Type 0} (m : FundMeaning S) where
   -- Its shown balance: of the entries where it shows them, else of the book below.
   abbrev pub shown_by : Showing → S → Pool → ℕ
   shown_by lower_book l p = m.shown l p
-  shown_by (own_entries e) l p = at e p
+  shown_by (own_entries e) l p = entry_of e p
 
   -- Its standing: advisory where it shows its entries, else that of the book below.
   abbrev pub standing_by : Showing → S → Standing
@@ -78,12 +79,12 @@ module _ {S : Type 0} (m : FundMeaning S) where
   -- In an advisory month a posting in changes the entry of its pool, and nothing below.
   abbrev pub posted_in_by : Showing → S → Pool → ℕ → Overlaid S
   posted_in_by lower_book l p a = overlaid (m.posted_in l p a) lower_book
-  posted_in_by (own_entries e) l p a = overlaid l (own_entries (put e p (at e p + a)))
+  posted_in_by (own_entries e) l p a = overlaid l (own_entries (with_entry e p (entry_of e p + a)))
 
   -- A posting out, likewise.
   abbrev pub posted_out_by : Showing → S → Pool → ℕ → Overlaid S
   posted_out_by lower_book l p a = overlaid (m.posted_out l p a) lower_book
-  posted_out_by (own_entries e) l p a = overlaid l (own_entries (put e p (at e p - a)))
+  posted_out_by (own_entries e) l p a = overlaid l (own_entries (with_entry e p (entry_of e p - a)))
 
   -- In advisory standing there is nothing to rule off.
   abbrev pub ruled_off_by : Showing → S → Overlaid S

@@ -24,8 +24,7 @@ pages xs n = record { postings = xs; places = n }
 pub record PagesSound (s : Pages) : Type 0 where
   pub sized : Fit s.places
   pub fits : length s.postings ≤ s.places
-  pub generic : Kept s.postings Generic
-  pub flexible : Kept s.postings Flexible
+  pub kept : (p : Pool) → Kept s.postings p
 
 -- A journal starts empty.
 abbrev pub blank_pages : ℕ → Pages
@@ -33,7 +32,7 @@ blank_pages n = record { postings = []; places = n }
 
 -- An amount posted into or out of a pool.
 abbrev pub posting : Direction → Pool → ℕ → Posting
-posting d p a = record { pool = p; direction = d; amount = a }
+posting d p a = record { side = record { pool = p; direction = d }; amount = a }
 
 -- One posting more.
 abbrev pub with_posting : Pages → Posting → Pages

@@ -16,7 +16,7 @@ in_direction Out Out n = n
 
 -- The amount of a posting, if it is of that pool and direction, else 0.
 abbrev pub counted : Side → Posting → ℕ
-counted side x = in_direction side.direction x.direction (in_pool side.pool x.pool x.amount)
+counted side x = in_direction side.direction x.side.direction (in_pool side.pool x.side.pool x.amount)
 
 -- What the postings of one direction in one pool come to.
 unfoldable pub posted : Direction → Pool → List Posting → ℕ

@@ -13,7 +13,7 @@ use Rattle.fund.specs.declared.posting.Direction.{Direction}
 use Rattle.fund.specs.declared.posting.Direction.TheVariants.{In, Out}
 use Rattle.fund.specs.declared.posting.Posting.{Posting}
 
-pub posted_none : (d : Direction) (p : Pool) → posted d p [] ≡ 0
+posted_none : (d : Direction) (p : Pool) → posted d p [] ≡ 0
 unfolding posted
 posted_none d p = refl
 
@@ -25,34 +25,32 @@ posted_append : (d : Direction) (p : Pool) (xs ys : List Posting) → posted d p
 unfolding posted
 posted_append d p xs ys = sum_by-append (counted (record { pool = p; direction = d })) xs ys
 
--- an amount in p, as it counts for q, against what a table f of balances holds
-more_fits : (f : Pool → ℕ) (q p : Pool) (a : ℕ) → f q ≤ limit → f p + a ≤ limit → f q + in_pool q p a ≤ limit
-more_fits f Generic Generic a k h = h
-more_fits f Generic Flexible a k h = omega arith
-more_fits f Flexible Generic a k h = omega arith
-more_fits f Flexible Flexible a k h = h
+-- A balance of n, after a posting of a.
+abbrev pub balance_after : Direction → ℕ → ℕ → ℕ
+balance_after In n a = n + a
+balance_after Out n a = n - a
 
-pub less_fits : (f : Pool → ℕ) (q p : Pool) (a : ℕ) → a ≤ f p → in_pool q p a ≤ f q
-less_fits f Generic Generic a h = h
-less_fits f Generic Flexible a h = omega arith
-less_fits f Flexible Generic a h = omega arith
-less_fits f Flexible Flexible a h = h
+-- A balance of n allows a posting of a: it stays within the limit, or covers what goes out.
+abbrev pub Allows : Direction → ℕ → ℕ → Type 0
+Allows In n a = n + a ≤ limit
+Allows Out n a = a ≤ n
 
-pub more_at : (f : Pool → ℕ) (q p : Pool) (a : ℕ) → f q + in_pool q p a ≡ with_at f p (f p + a) q
-more_at f Generic Generic a = refl
-more_at f Generic Flexible a = omega arith
-more_at f Flexible Generic a = omega arith
-more_at f Flexible Flexible a = refl
+-- an amount posted in p, as it counts for q, against what a table f of balances holds
+pub allows_at : (d : Direction) (f : Pool → ℕ) (q p : Pool) (a : ℕ) → Allows d (f q) 0 → Allows d (f p) a → Allows d (f q) (in_pool q p a)
+allows_at d f Generic Generic a z h = h
+allows_at d f Generic Flexible a z h = z
+allows_at d f Flexible Generic a z h = z
+allows_at d f Flexible Flexible a z h = h
 
-pub less_at : (f : Pool → ℕ) (q p : Pool) (a : ℕ) → f q - in_pool q p a ≡ with_at f p (f p - a) q
-less_at f Generic Generic a = refl
-less_at f Generic Flexible a = omega arith
-less_at f Flexible Generic a = omega arith
-less_at f Flexible Flexible a = refl
+after_none : (d : Direction) (n : ℕ) → balance_after d n 0 ≡ n
+after_none In n = omega arith
+after_none Out n = omega arith
 
-pub kept_at : (xs : List Posting) → Kept xs Generic → Kept xs Flexible → (q : Pool) → Kept xs q
-kept_at xs g f Generic = g
-kept_at xs g f Flexible = f
+pub after_at : (d : Direction) (f : Pool → ℕ) (q p : Pool) (a : ℕ) → balance_after d (f q) (in_pool q p a) ≡ with_at f p (balance_after d (f p) a) q
+after_at d f Generic Generic a = refl
+after_at d f Generic Flexible a = after_none d (f Generic)
+after_at d f Flexible Generic a = after_none d (f Flexible)
+after_at d f Flexible Flexible a = refl
 
 pub kept_none : (q : Pool) → Kept [] q
 kept_none q = (omega (arith, posted_none In q, posted_none Out q), omega (arith, posted_none In q, posted_none Out q))
@@ -61,25 +59,21 @@ pub balance_le : (xs : List Posting) (q : Pool) → Kept xs q → balance xs q �
 balance_le xs q k = omega arith
 
 module _ (xs : List Posting) (k : (q : Pool) → Kept xs q) (p : Pool) (a : ℕ) where
-  pub kept_in : balance xs p + a ≤ limit → (q : Pool) → Kept (xs ++ posting In p a ∷ []) q
-  kept_in h q =
+  pub kept_with : (d : Direction) → Allows d (balance xs p) a → (q : Pool) → Kept (xs ++ posting d p a ∷ []) q
+  kept_with In h q =
       let i = posted_push In q xs (posting In p a) in
       let o = posted_push Out q xs (posting In p a) in
-      let f = more_fits (balance xs) q p a (balance_le xs q (k q)) h in
+      let f = allows_at In (balance xs) q p a (omega (arith, k q)) h in
       (omega (arith, k q), omega (arith, k q))
-
-  pub kept_out : a ≤ balance xs p → (q : Pool) → Kept (xs ++ posting Out p a ∷ []) q
-  kept_out h q =
+  kept_with Out h q =
       let i = posted_push In q xs (posting Out p a) in
       let o = posted_push Out q xs (posting Out p a) in
-      let f = less_fits (balance xs) q p a h in
+      let f = allows_at Out (balance xs) q p a (omega arith) h in
       (omega (arith, k q), omega (arith, k q))
 
-  pub balance_in : (q : Pool) → balance (xs ++ posting In p a ∷ []) q ≡ with_at (balance xs) p (balance xs p + a) q
-  balance_in q = omega (arith, k q, posted_push In q xs (posting In p a), posted_push Out q xs (posting In p a), more_at (balance xs) q p a)
-
-  pub balance_out : (q : Pool) → balance (xs ++ posting Out p a ∷ []) q ≡ with_at (balance xs) p (balance xs p - a) q
-  balance_out q = omega (arith, posted_push In q xs (posting Out p a), posted_push Out q xs (posting Out p a), less_at (balance xs) q p a)
+  pub balance_with : (d : Direction) (q : Pool) → balance (xs ++ posting d p a ∷ []) q ≡ with_at (balance xs) p (balance_after d (balance xs p) a) q
+  balance_with In q = omega (arith, k q, posted_push In q xs (posting In p a), posted_push Out q xs (posting In p a), after_at In (balance xs) q p a)
+  balance_with Out q = omega (arith, posted_push In q xs (posting Out p a), posted_push Out q xs (posting Out p a), after_at Out (balance xs) q p a)
 
 -- what is brought forward of n in p
 in_none : (q p : Pool) → in_pool q p 0 ≡ 0
@@ -96,27 +90,32 @@ brought_out : (q p : Pool) (n : ℕ) → posted Out q (brought p n) ≡ 0
 brought_out q p zero = posted_none Out q
 brought_out q p (suc n) = omega (arith, posted_push Out q [] (posting In p (suc n)), posted_none Out q)
 
-brought_short : (p : Pool) (n : ℕ) → length (brought p n) ≤ 1
+pub brought_short : (p : Pool) (n : ℕ) → length (brought p n) ≤ 1
 brought_short p zero = omega arith
 brought_short p (suc n) = omega arith
 
+pub kept_brought : (p : Pool) (n : ℕ) → n ≤ limit → (q : Pool) → Kept (brought p n) q
+kept_brought p n h q = (omega (arith, brought_out q p n), omega (arith, brought_in q p n, allows_at In (λ (r : Pool). 0) q p n (omega arith) (omega arith)))
+
 -- both balances, brought forward
-abbrev pub forward : ℕ → ℕ → List Posting
-forward g f = brought Generic g ++ brought Flexible f
+abbrev pub forward : (Pool → ℕ) → List Posting
+forward b = brought Generic (b Generic) ++ brought Flexible (b Flexible)
 
-pub forward_short : (g f : ℕ) → length (forward g f) ≤ 2
-forward_short g f = omega (arith, length-append (brought Generic g) (brought Flexible f), brought_short Generic g, brought_short Flexible f)
+pub forward_short : (b : Pool → ℕ) → length (forward b) ≤ 2
+forward_short b = omega (arith, length-append (brought Generic (b Generic)) (brought Flexible (b Flexible)), brought_short Generic (b Generic), brought_short Flexible (b Flexible))
 
-forward_in : (q : Pool) (g f : ℕ) → posted In q (forward g f) ≡ in_pool q Generic g + in_pool q Flexible f
-forward_in q g f = omega (arith, posted_append In q (brought Generic g) (brought Flexible f), brought_in q Generic g, brought_in q Flexible f)
+both_in : (b : Pool → ℕ) (q : Pool) → in_pool q Generic (b Generic) + in_pool q Flexible (b Flexible) ≡ b q
+both_in b Generic = omega arith
+both_in b Flexible = omega arith
 
-forward_out : (q : Pool) (g f : ℕ) → posted Out q (forward g f) ≡ 0
-forward_out q g f = omega (arith, posted_append Out q (brought Generic g) (brought Flexible f), brought_out q Generic g, brought_out q Flexible f)
+forward_in : (b : Pool → ℕ) (q : Pool) → posted In q (forward b) ≡ b q
+forward_in b q = omega (arith, posted_append In q (brought Generic (b Generic)) (brought Flexible (b Flexible)), brought_in q Generic (b Generic), brought_in q Flexible (b Flexible), both_in b q)
 
-pub balance_forward : (b : Pool → ℕ) (q : Pool) → balance (forward (b Generic) (b Flexible)) q ≡ b q
-balance_forward b Generic = omega (arith, forward_in Generic (b Generic) (b Flexible), forward_out Generic (b Generic) (b Flexible))
-balance_forward b Flexible = omega (arith, forward_in Flexible (b Generic) (b Flexible), forward_out Flexible (b Generic) (b Flexible))
+forward_out : (b : Pool → ℕ) (q : Pool) → posted Out q (forward b) ≡ 0
+forward_out b q = omega (arith, posted_append Out q (brought Generic (b Generic)) (brought Flexible (b Flexible)), brought_out q Generic (b Generic), brought_out q Flexible (b Flexible))
 
-pub kept_forward : (g f : ℕ) → g ≤ limit → f ≤ limit → (q : Pool) → Kept (forward g f) q
-kept_forward g f x y Generic = (omega (arith, forward_out Generic g f), omega (arith, forward_in Generic g f))
-kept_forward g f x y Flexible = (omega (arith, forward_out Flexible g f), omega (arith, forward_in Flexible g f))
+pub balance_forward : (b : Pool → ℕ) (q : Pool) → balance (forward b) q ≡ b q
+balance_forward b q = omega (arith, forward_in b q, forward_out b q)
+
+pub kept_forward : (b : Pool → ℕ) → ((q : Pool) → b q ≤ limit) → (q : Pool) → Kept (forward b) q
+kept_forward b h q = (omega (arith, forward_out b q), omega (arith, forward_in b q, h q))

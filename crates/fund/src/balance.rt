@@ -4,7 +4,7 @@ ghost use Rattle.fund.specs.Balances.{limit};
 
 pub(crate) mod postings;
 
-#[derive(Clone, Copy)]
+#[derive(Clone, Copy, PartialEq, Eq, Debug)]
 pub(crate) struct Balance {
     cents: u64,
     ghost within: { cents ≤ limit },

@@ -2,6 +2,7 @@
 ghost use Rattle.std.specs.Prelude.{◌≡◌};
 ghost use Rattle.fund.specs.Balances.{Balances, Within};
 ghost use Rattle.fund.specs.BalanceBook.{balances_of, balance_book, no_money};
+ghost use Rattle.fund.specs.BalanceBookLemmas.{balance_lawful};
 ghost use Rattle.std.proofs.Common.{rules};
 
 use crate::balance::Balance;
@@ -38,15 +39,9 @@ impl FundBook for BalanceBook {
 
     ghost state = { balances_of };
 
-    ghost lawful = { Prim.search rules };
+    ghost lawful = { balance_lawful };
 
     ghost real = { Prim.search rules };
-
-    ghost sized = { Prim.search rules };
-
-    ghost shown_within = { Prim.search rules };
-
-    ghost binding_within = { Prim.search rules };
 
     fn binding(&self, pool: Pool) -> u64 {
         self.balances.get(pool).cents()

@@ -11,6 +11,7 @@ use pools::pool::Pool;
 // No balance is above this many cents.
 pub const LIMIT: u64 = 7_000_000_000_000;
 
+// Books have no comparison and no Debug: nothing compares or prints a whole book.
 pub trait FundBook {
     // The states of this kind of book, and what they mean.
     ghost State: { Type 0 };
@@ -62,10 +63,10 @@ pub trait FundBook {
 
     ghost real: { (b : Self) → sound (state b) };
 
-    // Three of these laws once more by themselves: code over any book needs them.
-    ghost sized: { (b : Self) → 8 ≤ means.size (state b) };
+    // Three of these laws once more by themselves, as code over any book needs them; each follows from those above.
+    ghost sized: { (b : Self) → 8 ≤ means.size (state b) } = { λ b. (lawful.holds (state b) (real b)).sized };
 
-    ghost shown_within: { (b : Self) (q : Pool) → means.shown (state b) q ≤ limit };
+    ghost shown_within: { (b : Self) (q : Pool) → means.shown (state b) q ≤ limit } = { λ b. (lawful.holds (state b) (real b)).shown };
 
-    ghost binding_within: { (b : Self) (q : Pool) → means.binding (state b) q ≤ limit };
+    ghost binding_within: { (b : Self) (q : Pool) → means.binding (state b) q ≤ limit } = { λ b. (lawful.holds (state b) (real b)).binding };
 }

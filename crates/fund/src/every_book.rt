@@ -13,6 +13,7 @@ pub struct Account {
 }
 
 // Looks up a pool's balances. No run of calls loses a cent of the binding one, and none made in advisory standing moves it.
+#[tactic(auto, using(crate::specs::LawsLemmas::runs_go_on, crate::specs::LawsLemmas::conserves, crate::specs::LawsLemmas::advisory_leaves_binding))]
 pub fn account_of<B: FundBook>(book: &B, pool: Pool) -> Account
     ensures binding { result.binding ≡ B.means.binding (B.state book.now) pool }
     ensures shown { result.shown ≡ B.means.shown (B.state book.now) pool }
@@ -27,6 +28,7 @@ pub fn account_of<B: FundBook>(book: &B, pool: Pool) -> Account
 }
 
 // Rules the book off if fewer places are free than that many postings want. For up to 6 postings there are then places.
+#[tactic(auto, using(crate::specs::LawsLemmas::roomy, crate::specs::LawsLemmas::ruling_off_makes_room, crate::specs::LawsLemmas::four_postings_have_places))]
 pub fn make_room<B: FundBook>(book: &mut B, postings: usize)
     ensures made { B.state book.new ≡ with_room B.means (B.state book.old) postings }
     ensures roomy { Roomy B.means (B.state book.old) (B.state book.new) postings }

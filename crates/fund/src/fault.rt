@@ -4,13 +4,19 @@ ghost use Rattle.fund.specs.Faults.{label};
 
 use crate::label::Label;
 use pools::pool::Pool;
+use thiserror::Error;
 
-#[derive(Clone, Copy, PartialEq, Eq, Debug)]
+#[derive(Clone, Copy, PartialEq, Eq, Debug, Drop, Error)]
 pub enum BookFault {
+    #[error("a journal has 8 to 65,536 places")]
     UnfitPlaces,
+    #[error("no place is free for a posting to pool {0}")]
     NoFreePlace(Pool),
+    #[error("the balance of pool {0} would pass the limit")]
     OverLimit(Pool),
+    #[error("more is taken out of pool {0} than it holds")]
     AboveBalance(Pool),
+    #[error("this book keeps no advisory months")]
     NoAdvisoryMonths,
 }
 

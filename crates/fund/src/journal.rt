@@ -4,6 +4,7 @@ ghost use Rattle.fund.specs.Pages.{PagesSound, pages};
 
 use crate::fault::BookFault;
 use crate::posting::Posting;
+use thiserror::Error;
 
 pub mod books;
 
@@ -18,7 +19,8 @@ pub struct Journal {
 }
 
 // Places that no journal can be kept in, handed back with the fault.
-#[derive(Drop)]
+#[derive(PartialEq, Eq, Debug, Drop, Error)]
+#[error("{fault}")]
 pub struct RefusedPlaces {
     pub fault: BookFault,
     pub places: Vec<Posting>,

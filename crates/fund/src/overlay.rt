@@ -1,7 +1,7 @@
 // The advisory overlay: over any other book, it keeps the balances of an advisory month to itself.
 ghost use Rattle.std.specs.Prelude.{◌≡◌};
 ghost use Rattle.fund.specs.Overlay.{Overlaid, OverlaidSound, overlaid_of, over, overlay_book, IsABook, LowerStaysBinding, LowerUntouched};
-ghost use Rattle.fund.specs.Overlaid.{overlay_lawful, overlay_shown_within};
+ghost use Rattle.fund.specs.Overlaid.{overlay_lawful};
 ghost use Rattle.std.proofs.Common.{rules};
 
 use crate::balance::Balance;
@@ -20,6 +20,7 @@ pub struct Overlay<B: FundBook> {
 
 impl<B: FundBook> Overlay<B> {
     // An overlay over the book, which it stands binding.
+    #[tactic(auto, using(crate::specs::Overlaid::overlay_lawful, crate::specs::Overlaid::lower_stays_binding, crate::specs::Overlaid::lower_untouched))]
     pub fn over(mut lower: B) -> Overlay<B>
         ensures made { overlaid_of B.state result ≡ over B.means (B.state lower) }
         ensures book { IsABook B.means B.sound }
@@ -27,7 +28,7 @@ impl<B: FundBook> Overlay<B> {
         ensures binding { LowerStaysBinding B.means B.sound }
         ensures untouched { LowerUntouched B.means }
     {
-        let _ = lower.stand(Standing::Binding);
+        lower.stand(Standing::Binding).unwrap();
         Overlay {
             lower,
             entries: None,
@@ -47,12 +48,6 @@ impl<B: FundBook> FundBook for Overlay<B> {
     ghost lawful = { overlay_lawful _ _ B.FundBook.lawful };
 
     ghost real = { Prim.search rules };
-
-    ghost sized = { Prim.search rules };
-
-    ghost shown_within = { λ b q. overlay_shown_within _ _ B.FundBook.lawful (overlaid_of B.FundBook.state b) (Prim.search rules) q };
-
-    ghost binding_within = { Prim.search rules };
 
     fn binding(&self, pool: Pool) -> u64 {
         self.lower.binding(pool)
@@ -94,9 +89,8 @@ impl<B: FundBook> FundBook for Overlay<B> {
                 self.entries = None;
             }
             Standing::Advisory => {
-                if self.entries.is_none() {
-                    self.entries = Some(PerPool::of(|pool| Balance::new(self.lower.shown(pool))));
-                }
+                let shown = |pool| Balance::new(self.lower.shown(pool));
+                self.entries.get_or_insert_with(|| PerPool::of(shown));
             }
         }
         Ok(())
@@ -117,9 +111,8 @@ impl<B: FundBook> FundBook for Overlay<B> {
     }
 
     fn rule_off(&mut self) {
-        match self.entries {
-            None => self.lower.rule_off(),
-            Some(_) => {}
+        if self.entries.is_none() {
+            self.lower.rule_off();
         }
     }
 }

@@ -10,25 +10,26 @@ pub enum Direction {
     Out,
 }
 
-#[derive(Clone, Copy, PartialEq, Eq, Debug)]
-pub struct Posting {
-    pub pool: Pool,
-    pub direction: Direction,
-    pub amount: u64,
-}
-
-// The postings of one pool in one direction.
+// One direction of one pool: what a posting is made on, and what postings are totalled by.
 #[derive(Clone, Copy, PartialEq, Eq, Debug)]
 pub struct Side {
     pub pool: Pool,
     pub direction: Direction,
 }
 
+#[derive(Clone, Copy, PartialEq, Eq, Debug)]
+pub struct Posting {
+    pub side: Side,
+    pub amount: u64,
+}
+
 impl Posting {
-    // What stands in a place before anything is posted there.
+    // What stands in a place before anything is posted there. Not a Default: no pool and no direction is one by nature.
     pub const BLANK: Posting = Posting {
-        pool: Pool::Generic,
-        direction: Direction::In,
+        side: Side {
+            pool: Pool::Generic,
+            direction: Direction::In,
+        },
         amount: 0,
     };
 }
@@ -39,7 +40,7 @@ impl TellsAmount for Posting {
     ghost told = { counted };
 
     fn amount(&self, selection: Side) -> u64 {
-        if self.pool == selection.pool && self.direction == selection.direction {
+        if self.side == selection {
             self.amount
         } else {
             0

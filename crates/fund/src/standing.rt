@@ -5,6 +5,7 @@ ghost use Rattle.fund.specs.declared.fault.BookFault.TheVariants.{NoAdvisoryMont
 ghost use Rattle.fund.specs.declared.standing.Standing.TheVariants.{Binding, Advisory};
 
 use crate::fault::BookFault;
+use pools::out_of_range::OutOfRange;
 use std::fmt;
 
 // A binding month moves money; an advisory one only shows what it would move.
@@ -15,6 +16,7 @@ pub enum Standing {
 }
 
 impl Standing {
+    // Beside Display, since a statement takes the word as bytes.
     pub fn word(self) -> &'static str
         ensures { result.now ≡ standing_word self }
     {
@@ -35,20 +37,16 @@ impl Standing {
     }
 }
 
-// A number that stands for no standing.
-#[derive(Clone, Copy, PartialEq, Eq, Debug)]
-pub struct UnknownStanding(pub u32);
-
 impl TryFrom<u32> for Standing {
-    type Error = UnknownStanding;
+    type Error = OutOfRange;
 
     ghost try_from_gives = { ReadsStanding };
 
-    fn try_from(number: u32) -> Result<Standing, UnknownStanding> {
+    fn try_from(number: u32) -> Result<Standing, OutOfRange> {
         match number {
             0 => Ok(Standing::Binding),
             1 => Ok(Standing::Advisory),
-            _ => Err(UnknownStanding(number)),
+            _ => Err(OutOfRange(number)),
         }
     }
 }

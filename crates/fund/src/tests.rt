@@ -12,9 +12,7 @@ use std::process::Abort;
 use std::test::Fail;
 
 fn journal(rt: &HostRuntime, places: usize) -> Result<Journal, Fail> {
-    Journal::over(vec![in rt.alloc(); Posting::BLANK; places]?).map_err(|_| Fail::new(
-        "the places are refused",
-    ))
+    Ok(Journal::over(vec![in rt.alloc(); Posting::BLANK; places]?)?)
 }
 
 fn refuses(rt: &(impl Abort + AllocGlobal), places: usize) -> Result<(), Fail> {
@@ -59,10 +57,36 @@ fn a_full_journal_is_ruled_off(rt: HostRuntime) -> Result<(), Fail> {
     journal.rule_off();
     let postings = journal.postings();
     assert!(rt; postings.len() == 2);
-    assert_eq!(rt; postings[0].pool, Pool::Generic);
+    assert_eq!(rt; postings[0].side.pool, Pool::Generic);
     assert_eq!(rt; postings[0].amount, 5);
-    assert_eq!(rt; postings[1].pool, Pool::Flexible);
+    assert_eq!(rt; postings[1].side.pool, Pool::Flexible);
     assert_eq!(rt; postings[1].amount, 120);
+    Ok(())
+}
+
+#[test]
+fn faults_say_what_is_wrong(rt: HostRuntime) -> Result<(), Fail> {
+    for (fault, text) in [
+        (BookFault::UnfitPlaces, "a journal has 8 to 65,536 places"),
+        (
+            BookFault::NoFreePlace(Pool::Generic),
+            "no place is free for a posting to pool G",
+        ),
+        (
+            BookFault::OverLimit(Pool::Flexible),
+            "the balance of pool F would pass the limit",
+        ),
+        (
+            BookFault::AboveBalance(Pool::Generic),
+            "more is taken out of pool G than it holds",
+        ),
+        (
+            BookFault::NoAdvisoryMonths,
+            "this book keeps no advisory months",
+        ),
+    ] {
+        assert_eq!(rt; format!(in rt.alloc(); "{fault}")?.as_str(), text);
+    }
     Ok(())
 }
 

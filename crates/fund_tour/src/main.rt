@@ -3,17 +3,18 @@
 
 mod charges;
 
-use anyhow::anyhow;
 use charges::{Charge, collect};
 use fund::balance_book::BalanceBook;
 use fund::book::FundBook;
-use fund::every_book::{account_of, make_room};
+use fund::every_book::{Account, account_of, make_room};
 use fund::fault::BookFault;
 use fund::journal::{Journal, RefusedPlaces};
 use fund::overlay::Overlay;
 use fund::posting::Posting;
 use fund::standing::Standing;
+use pools::per_pool::PerPool;
 use pools::pool::Pool;
+use std::fmt::Display;
 use std::io;
 
 const CHARGES: [Charge; 3] = [
@@ -31,41 +32,52 @@ const CHARGES: [Charge; 3] = [
     },
 ];
 
+// What is paid out of each pool in a month.
+const PAYMENTS: PerPool<u64> = PerPool {
+    generic: 500,
+    flexible: 200,
+};
+
 // Prints what a call answered.
-fn print_answer(rt: &HostRuntime, call: &str, answer: Result<(), BookFault>) -> io::Result<()> {
-    let Err(fault) = answer else {
-        return println!(rt; "{call}: taken");
-    };
-    let label = fault.label();
-    let (number, layer) = (label.number, label.layer);
-    // Matched here: a label has no one Display, since each layer has places of its own and a fault may have none.
-    match label.place {
-        Some(pool) => println!(rt; "{call}: REFUSED {number} {layer} {pool}"),
-        None => println!(rt; "{call}: REFUSED {number} {layer}"),
+fn print_answer(
+    rt: &HostRuntime,
+    call: impl Display + Drop,
+    answer: Result<(), BookFault>,
+) -> io::Result<()> {
+    match answer.map_err(BookFault::label) {
+        Ok(()) => println!(rt; "{call}: taken"),
+        Err(told) => match told.place {
+            Some(pool) => println!(rt; "{call}: REFUSED {} {} {pool}", told.number, told.layer),
+            None => println!(rt; "{call}: REFUSED {} {}", told.number, told.layer),
+        },
     }
 }
 
 // Prints what is looked up in a book: standing, binding and shown balance of each pool, free places.
 fn print_fund<B: FundBook>(rt: &HostRuntime, book: &B) -> io::Result<()> {
-    let generic = account_of(book, Pool::Generic);
-    let flexible = account_of(book, Pool::Flexible);
-    println!(rt;
-        "FUND {} G {} {} F {} {} FREE {}",
-        book.standing(),
-        generic.binding,
-        generic.shown,
-        flexible.binding,
-        flexible.shown,
-        book.free_places()
-    )
+    print!(rt; "FUND {}", book.standing())?;
+    for pool in Pool::ALL {
+        let Account { binding, shown } = account_of(book, pool);
+        print!(rt; " {pool} {binding} {shown}")?;
+    }
+    println!(rt; " FREE {}", book.free_places())
 }
 
 // One month: each pool's charges come in, and a part of them goes out again as payments.
 fn print_month<B: FundBook>(rt: &HostRuntime, book: &mut B) -> io::Result<()> {
-    print_answer(rt, "charges G", collect(book, &CHARGES, Pool::Generic))?;
-    print_answer(rt, "payments G 500", book.post_out(Pool::Generic, 500))?;
-    print_answer(rt, "charges F", collect(book, &CHARGES, Pool::Flexible))?;
-    print_answer(rt, "payments F 200", book.post_out(Pool::Flexible, 200))?;
+    for pool in Pool::ALL {
+        let paid = PAYMENTS.get(pool);
+        print_answer(
+            rt,
+            format_args!("charges {pool}"),
+            collect(book, &CHARGES, pool),
+        )?;
+        print_answer(
+            rt,
+            format_args!("payments {pool} {paid}"),
+            book.post_out(pool, paid),
+        )?;
+    }
     print_fund(rt, book)
 }
 
@@ -86,7 +98,7 @@ fn print_journal(rt: &HostRuntime, journal: &mut Journal) -> io::Result<()> {
     print_answer(rt, "charges G", collect(journal, &CHARGES, Pool::Generic))?;
     make_room(journal, 4);
     for posting in journal.postings() {
-        println!(rt; "brought forward {} {}", posting.pool, posting.amount)?;
+        println!(rt; "brought forward {} {}", posting.side.pool, posting.amount)?;
     }
     print_month(rt, journal)
 }
@@ -102,16 +114,11 @@ fn print_advisory_month<B: FundBook>(rt: &HostRuntime, book: &mut B) -> io::Resu
 
 // Seven places are refused and come back; with one more they are enough.
 fn open_journal(rt: &HostRuntime) -> anyhow::Result<Journal> {
-    // A match, since what either side holds goes on.
-    let RefusedPlaces { fault, mut places } = match Journal::over(
-        vec![in rt.alloc(); Posting::BLANK; 7]?,
-    ) {
-        Ok(journal) => return Ok(journal),
-        Err(refused) => refused,
-    };
+    let seven = vec![in rt.alloc(); Posting::BLANK; 7]?;
+    let RefusedPlaces { fault, mut places } = Journal::over(seven).unwrap_err();
     print_answer(rt, "7 places", Err(fault))?;
     places.push(Posting::BLANK)?;
-    Journal::over(places).map_err(|_| anyhow!("eight places were refused"))
+    Ok(Journal::over(places).unwrap())
 }
 
 fn main(rt: HostRuntime) -> anyhow::Result<()> {

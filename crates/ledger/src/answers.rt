@@ -2,11 +2,12 @@
 use assessment::day_result::DayFigures;
 use assessment::rule::AvailabilityRule;
 use fund::book::FundBook;
+use fund::every_book::Account;
 use pools::per_pool::PerPool;
 use pools::pool::Pool;
 use settlement::fault::{FaultPlace, SettlementFault};
 use settlement::settlement::Settlement;
-use settlement::tables::{LineEntry, LoadEntry, PoolClose, pool_at};
+use settlement::tables::{LINES, LineEntry, LoadEntry, PoolClose, pool_at};
 use std::io;
 
 pub(crate) fn taken(rt: &HostRuntime) -> io::Result<()> {
@@ -14,6 +15,7 @@ pub(crate) fn taken(rt: &HostRuntime) -> io::Result<()> {
 }
 
 pub(crate) fn recorded(rt: &HostRuntime, figures: &DayFigures) -> io::Result<()> {
+    // Both pools at once, since that is shorter than a loop over Pool::ALL.
     let DayFigures { generic, flexible } = figures;
     println!(rt;
         "OK {} {} {} {}",
@@ -37,7 +39,7 @@ pub(crate) fn refused(rt: &HostRuntime, fault: SettlementFault) -> io::Result<()
 
 // The table holds two lines for each resource, generic first.
 fn line(rt: &HostRuntime, at: usize, entry: &LineEntry) -> io::Result<()> {
-    let resource = at / 2;
+    let resource = at / LINES;
     let pool = pool_at(at);
     let line = entry.line;
     println!(rt;
@@ -63,8 +65,10 @@ pub(crate) fn closed(
     for (at, entry) in lines.iter().enumerate() {
         line(rt, at, entry)?;
     }
-    pool_line(rt, Pool::Generic, pools.generic)?;
-    pool_line(rt, Pool::Flexible, pools.flexible)
+    for pool in Pool::ALL {
+        pool_line(rt, pool, pools.get(pool))?;
+    }
+    Ok(())
 }
 
 pub(crate) fn released(rt: &HostRuntime, loads: &[LoadEntry]) -> io::Result<()> {
@@ -81,12 +85,10 @@ pub(crate) fn fund<B: FundBook, G: AvailabilityRule, F: AvailabilityRule>(
     rt: &HostRuntime,
     settlement: &Settlement<B, G, F>,
 ) -> io::Result<()> {
-    let standing = settlement.standing();
-    let generic = settlement.account(Pool::Generic);
-    let flexible = settlement.account(Pool::Flexible);
-    let places = settlement.free_places();
-    println!(rt;
-        "FUND {standing} G {} {} F {} {} FREE {places}",
-        generic.binding, generic.shown, flexible.binding, flexible.shown
-    )
+    print!(rt; "FUND {}", settlement.standing())?;
+    for pool in Pool::ALL {
+        let Account { binding, shown } = settlement.account(pool).balances;
+        print!(rt; " {pool} {binding} {shown}")?;
+    }
+    println!(rt; " FREE {}", settlement.free_places())
 }

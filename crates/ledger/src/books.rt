@@ -25,7 +25,7 @@ pub struct BookPlan {
     pub ground: Ground,
 }
 
-// One more than a journal can have: any number from here on is refused alike.
+// One more than a journal can have, which is the fund's own: any number from here on is refused alike.
 const TOO_MANY_PLACES: u64 = 65_537;
 
 pub(crate) fn plan(words: &[&str]) -> Result<BookPlan, LineFault> {

@@ -1,4 +1,4 @@
-// The calls of a script, and the call that a line is.
+// The calls of a script, and the call that a line is. `heap` is a handle, handed beside what it is needed for, as in the library.
 ghost use Rattle.std.specs.Prelude.{◌≡◌, length, MatchResult, ◌≢◌};
 ghost use Rattle.ledger.specs.Calls.{terms_of, row_of, day_of};
 
@@ -11,7 +11,7 @@ use assessment::submission::{Bid, DaySubmission, HourBids, Showing};
 use assessment::trade_month::TradeMonth;
 use settlement::fault::ResourceDay;
 use settlement::tables::{LoadEntry, MonthTerms, RosterEntry, SubmittedDay};
-use std::alloc::Global;
+use std::alloc::{AllocError, Global};
 
 // A row, and its place in the day table.
 #[derive(Clone, Copy, PartialEq, Eq, Debug)]
@@ -27,7 +27,7 @@ pub struct TableLengths {
     pub lines: u32,
 }
 
-#[derive(Drop)]
+#[derive(PartialEq, Eq, Debug, Drop)]
 pub enum Call {
     Start(BookPlan),
     Roster(Vec<RosterEntry>),
@@ -46,7 +46,7 @@ fn roster(heap: Global, categories: &[u32]) -> Result<Vec<RosterEntry>, LineFaul
         .iter()
         .enumerate()
         .map(|(number, category)| -> Result<RosterEntry, LineFault> {
-            let identifier = u32::try_from(number).map_err(|_| LineFault::NoMemory)?;
+            let identifier = u32::try_from(number).map_err(|_| LineFault::NoMemory(AllocError))?;
             Ok(RosterEntry {
                 identifier,
                 category: *category,
@@ -79,6 +79,7 @@ fn table_lengths([days, lines]: [u32; 2]) -> TableLengths {
     TableLengths { days, lines }
 }
 
+// Each number by its name, and not by pool: their order is the script's.
 fn placed_row(numbers: [u32; 5]) -> PlacedRow
     ensures { result ≡ row_of numbers }
 {
@@ -132,6 +133,7 @@ fn month_terms(numbers: [u32; 8]) -> MonthTerms
     }
 }
 
+// Each number by its name, and not by pool: their order is the script's.
 fn submitted_day(numbers: [u32; 10]) -> SubmittedDay
     ensures { result ≡ day_of numbers }
 {
@@ -188,8 +190,6 @@ fn call_of(heap: Global, verb: Verb, words: &[&str]) -> Result<Call, LineFault> 
 // The call that the line is: a name, and words each parted by one space.
 pub(crate) fn parse(heap: Global, line: &str) -> Result<Call, LineFault> {
     let words: Vec<&str> = line.split(' ').collect(heap)?;
-    let [name, rest @ ..] = words.as_slice() else {
-        return Err(LineFault::NoSuchCall);
-    };
+    let (name, rest) = words.split_first().ok_or(LineFault::NoSuchCall)?;
     call_of(heap, name.parse()?, rest)
 }

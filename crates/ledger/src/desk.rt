@@ -27,6 +27,7 @@ fn answer<T, F: FnOnce(T) -> io::Result<()>>(
     }
 }
 
+// Nothing else is derived, since a settlement has no comparison and no Debug.
 #[derive(Drop)]
 pub struct Desk<B: FundBook> {
     settlement: Settlement<B, GenericRule, FlexibleRule>,

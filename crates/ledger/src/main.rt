@@ -18,11 +18,11 @@ use std::process::ExitCode;
 fn run(rt: &HostRuntime) -> Result<(), Stop> {
     let text = io::read_to_string(rt.alloc(), rt.stdin())?;
     let lines = script_lines(rt.alloc(), text.as_str())?;
-    let [start, calls @ ..] = lines.as_slice() else {
-        return Ok(());
-    };
-    let script = Script { start, calls };
-    script.run(rt)
+    match lines.split_first() {
+        Some((start, calls)) => Script { start, calls }.run(rt),
+        // A script without a call does nothing.
+        None => Ok(()),
+    }
 }
 
 fn main(rt: HostRuntime) -> ExitCode {

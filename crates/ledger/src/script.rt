@@ -10,7 +10,7 @@ use fund::journal::Journal;
 use fund::overlay::Overlay;
 use std::alloc::{AllocError, Global};
 
-#[derive(Clone, Copy)]
+#[derive(Clone, Copy, PartialEq, Eq, Debug)]
 pub struct ScriptLine<'a> {
     // Counted from 1, over all lines.
     pub number: usize,
@@ -24,7 +24,7 @@ impl ScriptLine<'_> {
 }
 
 // A script that is not empty: the line that starts the settlement, and those of the calls made of it.
-#[derive(Clone, Copy)]
+#[derive(Clone, Copy, PartialEq, Eq, Debug)]
 pub struct Script<'a> {
     pub start: &'a ScriptLine<'a>,
     pub calls: &'a [ScriptLine<'a>],

@@ -1,5 +1,6 @@
-// The two pools of resource adequacy capacity, and tables with an entry for each.
+// What every layer speaks of: the two pools of resource adequacy capacity, tables with an entry for each, and the error of a number outside the limits.
 #![tactic(auto)]
 
+pub mod out_of_range;
 pub mod per_pool;
 pub mod pool;

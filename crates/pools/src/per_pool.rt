@@ -8,7 +8,7 @@ ghost use Rattle.pools.specs.declared.pool.Pool.TheVariants.{Generic, Flexible};
 
 use crate::pool::Pool;
 
-#[derive(Clone, Copy, PartialEq, Eq, Debug)]
+#[derive(Clone, Copy, Default, PartialEq, Eq, Debug)]
 pub struct PerPool<T> {
     pub generic: T,
     pub flexible: T,

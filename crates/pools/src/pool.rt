@@ -11,6 +11,9 @@ pub enum Pool {
 }
 
 impl Pool {
+    // Both, in the order in which they are posted and printed.
+    pub const ALL: [Pool; 2] = [Pool::Generic, Pool::Flexible];
+
     pub fn letter(self) -> u8
         ensures { result ≡ pool_letter self }
     {

@@ -1,7 +1,8 @@
 // Reads a month file from standard input, and writes its statement, or its refusal, to standard output.
 #![tactic(auto)]
 
-use statement::job::{NoStatement, settle_file};
+use statement::job::settle_file;
+use statement::no_statement::NoStatement;
 use std::io::{Read, Write};
 use std::process::ExitCode;
 
@@ -14,10 +15,11 @@ fn run(rt: &HostRuntime) -> anyhow::Result<ExitCode> {
             rt.stdout().write_all(statement.as_slice())?;
             Ok(ExitCode::SUCCESS)
         }
-        Err(NoStatement::Refused(line)) => {
-            rt.stdout().write_all(line.written())?;
+        Err(refusal @ NoStatement::Refused(_)) => {
+            print!(rt; "{refusal}")?;
             Ok(ExitCode::FAILURE)
         }
+        // Handed on here, since only want of memory ends the program.
         Err(error) => Err(error.into()),
     }
 }

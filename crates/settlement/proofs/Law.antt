@@ -8,7 +8,6 @@ use Rattle.assessment.specs.Days.{Rules}
 use Rattle.assessment.specs.declared.trade_month.TradeMonth.{TradeMonth}
 use Rattle.assessment.specs.Figures.{DayFigures, DayRow}
 use Rattle.assessment.specs.declared.line.Line.{Line}
-use Rattle.fund.specs.Balances.{limit}
 use Rattle.fund.specs.Meaning.{FundMeaning, Lawful}
 use Rattle.pools.specs.PerPool.{entry_of}
 use Rattle.pools.specs.declared.per_pool.PerPool.{PerPool}
@@ -17,28 +16,31 @@ use Rattle.pools.specs.declared.pool.Pool.TheVariants.{Generic, Flexible}
 use Rattle.fund.specs.declared.standing.Standing.{Standing}
 use Rattle.fund.specs.declared.standing.Standing.TheVariants.{Binding, Advisory}
 use Rattle.settlement.specs.Tables.{AllFit}
-use Rattle.settlement.specs.Views.{View, Phase, fresh, open_at, closed, release_due, date_of, phase_closed}
+use Rattle.assessment.specs.Calendar.{date_of}
+use Rattle.settlement.specs.Views.{View, Phase, fresh, open_at, closed, release_due, phase_closed}
 use Rattle.settlement.specs.Opening.{started, standing_of, opened, Opens}
 use Rattle.settlement.specs.Recording.{IsOpen, HasDay, figures_of, place_of, Records}
-use Rattle.settlement.specs.Closing.{told, charged_entry, paid_entry, charged_entries, close_rate, paid_entries, pools_closed, pool_closed, pool_lines, lines_closed, line_at, fund_of, FundWithin, month_posted, Funded, ClosesAt, Closes}
+use Rattle.settlement.specs.Closing.{told, charged_entry, paid_entry, charged_entries, close_rate, paid_entries, pools_closed, pool_closed, pool_lines, lines_closed, line_at, FundWithin, month_posted, ClosesAt, Closes}
 use Rattle.settlement.specs.Releasing.{IsDue, LoadsWithin, shares, released, ReleasesAt, Releases}
-use Rattle.settlement.specs.Runs.{DayTaken, MonthClosed, Event, month_closed, fund_released, OpenRun, History, Handed, HandedIfTaken, noted, with_closed, after_open, after_record, after_close, after_release, Run, starts, opens, records, closes, releases}
+use Rattle.settlement.specs.Runs.{MonthClosed, Event, month_closed, fund_released, OpenRun, History, Handed, HandedIfTaken, noted, with_closed, after_open, after_record, after_close, after_release, Run, starts, opens, records, closes, releases}
 use Rattle.settlement.specs.Accounts.{worked_lines, returned_lines, Each, PricedAt, BelowCeiling, Settled, charged, paid, given_out, EveryMonth, AccountantsLaw}
 use Rattle.settlement.specs.declared.amounts.LineAmount.TheVariants.{Charges, Payments, EligibleQuantity}
 use Rattle.settlement.specs.declared.fault.SettlementFault.{SettlementFault}
-use Rattle.settlement.specs.declared.stage.MonthDate.{MonthDate}
+use Rattle.assessment.specs.declared.month_date.MonthDate.{MonthDate}
 use Rattle.settlement.specs.declared.tables.RosterEntry.{RosterEntry}
 use Rattle.settlement.specs.declared.tables.MonthTerms.{MonthTerms}
 use Rattle.settlement.specs.declared.tables.LineEntry.{LineEntry}
 use Rattle.settlement.specs.declared.tables.LoadEntry.{LoadEntry}
 use Rattle.settlement.specs.declared.tables.PoolClose.{PoolClose}
-use Rattle.settlement.proofs.Steps.{close_steps, balanced, release_steps, lighter}
+use Rattle.settlement.proofs.Steps.{balanced, lighter}
+use Rattle.settlement.proofs.Closings.{pools_funded}
 use Rattle.settlement.proofs.Rates.{same_charges, same_quantity, rate_capped, payments_within, little_left}
 use Rattle.settlement.proofs.Working.{line_law}
 use Rattle.settlement.proofs.Ceilings.{priced, ceiling}
 use Rattle.settlement.proofs.Shares.{shares_within}
 use Rattle.settlement.proofs.Places.{Tallied, tallied_none, noting, tallied_more, line_worked}
 use Rattle.settlement.proofs.Returned.{returned, length_table}
+use Rattle.settlement.specs.declared.tables.SubmittedDay.{SubmittedDay}
 
 -- what holds of the entry made for each index holds of every entry
 each_counted : (P : LineEntry → Type 0) (g : LineEntry → LineEntry) (f : ℕ → LineEntry) (a n : ℕ) → ((i : ℕ) → i < a + n → P (g (f i))) → Each P (map g (map f (range_with_len a n)))
@@ -181,7 +183,7 @@ module _ {S : Type 0} (m : FundMeaning S) (sound : S → Type 0) (r : Rules) (la
       rw c.1 next
   kept_open h v w t roster rows rows' (Err e) k c = rw c.1 k
 
-  recorded : (opening : Pool → ℕ) (past : List Event) (under : Option OpenRun) (v : View S) (roster : List RosterEntry) (rows rows' : List DayRow) (d : DayTaken) (f : DayFigures)
+  recorded : (opening : Pool → ℕ) (past : List Event) (under : Option OpenRun) (v : View S) (roster : List RosterEntry) (rows rows' : List DayRow) (d : SubmittedDay) (f : DayFigures)
       → Kept m sound r opening past under v → Handed under roster rows → Records r v.phase roster rows d.at d.submission (Ok f) rows' → Kept m sound r opening past (noted under d rows') v
   recorded opening past None v roster rows rows' d f k h c = absurd h
   recorded opening past (Some o) v roster rows rows' d f k h c =
@@ -201,7 +203,7 @@ module _ {S : Type 0} (m : FundMeaning S) (sound : S → Type 0) (r : Rules) (la
         current = record { phase = at-month; standing = k.current.standing; tallied = subst (λ x. Tallied r (noting o.month d) x) (sym stored) more };
       }
 
-  kept_record : (h : History) (v : View S) (roster : List RosterEntry) (rows rows' : List DayRow) (d : DayTaken) (a : Result DayFigures SettlementFault)
+  kept_record : (h : History) (v : View S) (roster : List RosterEntry) (rows rows' : List DayRow) (d : SubmittedDay) (a : Result DayFigures SettlementFault)
       → Keeps h v → HandedIfTaken h.current roster rows a → Records r v.phase roster rows d.at d.submission a rows'
       → Keeps (after_record h d a rows') v
   kept_record h v roster rows rows' d (Ok f) k g c = recorded h.opening h.past h.current v roster rows rows' d f k g c
@@ -218,12 +220,11 @@ module _ {S : Type 0} (m : FundMeaning S) (sound : S → Type 0) (r : Rules) (la
       let x = closes_to m r s o in
       let at-month = k.current.phase in
       let after : ClosesAt m r (open_at t price) v o.month.roster o.rows a w lines' = subst (λ ph. ClosesAt m r ph v o.month.roster o.rows a w lines') at-month c.1 in
-      let funded : (p : Pool) → fund_of m r s t price o.month.roster o.rows p ≤ limit → Funded m s p (pool_closed m r s t price o.month.roster o.rows p) =
-      λ p room. record { room = room; covered = payments_within price (m.shown s p) (charged_entries r t price o.month.roster o.rows p) } in
-      let steps = close_steps m sound law s x k.keeps
-      (funded Generic (subst (λ ph. FundWithin m r ph s o.month.roster o.rows Generic) at-month c.0.generic))
-      (funded Flexible (subst (λ ph. FundWithin m r ph s o.month.roster o.rows Flexible) at-month c.0.flexible)) in
-      let b = balanced m sound law s x k.keeps steps in
+      let funded = pools_funded m r s t price o.month.roster o.rows x
+      (subst (λ ph. FundWithin m r ph s o.month.roster o.rows Generic) at-month c.0.generic)
+      (subst (λ ph. FundWithin m r ph s o.month.roster o.rows Flexible) at-month c.0.flexible)
+      refl in
+      let b = balanced m sound law s x k.keeps funded in
       let each = settled m r s o lines c.0.fits k.current.tallied in
       let next : Kept m sound r opening (month_closed (month_done m r s o) ∷ past) None (record { opening = v.opening; phase = phase_closed (date_of t); book = month_posted m s x }) =
       record {
@@ -264,7 +265,7 @@ module _ {S : Type 0} (m : FundMeaning S) (sound : S → Type 0) (r : Rules) (la
   released_by (release_due d) opening past under v w es es' k e some c =
       let s = v.book in
       let within = shares_within m s es some.3 in
-      let l = lighter m sound law s (shares m s es) (release_steps m sound law s (shares m s es) k.keeps within) in
+      let l = lighter m sound law s (shares m s es) k.keeps within in
       let next : Kept m sound r opening (fund_released (shares m s es) ∷ past) under (record { opening = v.opening; phase = closed d; book = released m s (shares m s es) }) =
       record {
         keeps = l.keeps;

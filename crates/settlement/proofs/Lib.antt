@@ -1,9 +1,9 @@
+pub mod BothPools
 pub mod Working
 pub mod Recordings
 pub mod Writing
 pub mod Steps
 pub mod Rates
-pub mod Paying
 pub mod Closings
 pub mod Shares
 pub mod Sharing

@@ -14,8 +14,9 @@ use Rattle.pools.specs.declared.pool.Pool.TheVariants.{Generic, Flexible}
 use Rattle.settlement.specs.Tables.{places_of}
 use Rattle.settlement.specs.Recording.{place_of}
 use Rattle.settlement.specs.Closing.{line_at}
-use Rattle.settlement.specs.Runs.{DayTaken, MonthRun}
+use Rattle.settlement.specs.Runs.{MonthRun}
 use Rattle.settlement.specs.Accounts.{figures_for, if_of, worked_line}
+use Rattle.settlement.specs.declared.tables.SubmittedDay.{SubmittedDay}
 
 -- a figure over the 31 places of a resource, and over its records
 abbrev in_places : (DayFigures → ℕ) → List DayRow → ℕ → ℕ
@@ -58,11 +59,11 @@ tallied_none r m table none e =
     }
 
 -- the same month with one record more
-abbrev pub noting : MonthRun → DayTaken → MonthRun
+abbrev pub noting : MonthRun → SubmittedDay → MonthRun
 noting m d = record { terms = m.terms; roster = m.roster; records = d ∷ m.records }
 
 -- a record to a free place
-pub tallied_more : (r : Rules) (m : MonthRun) (table : List DayRow) (d : DayTaken) → d.at.resource < length m.roster → 1 ≤ d.at.day → d.at.day ≤ 31
+pub tallied_more : (r : Rules) (m : MonthRun) (table : List DayRow) (d : SubmittedDay) → d.at.resource < length m.roster → 1 ≤ d.at.day → d.at.day ≤ 31
     → get_or table (place_of d.at) None ≡ None → Tallied r m table → Tallied r (noting m d) (set table (place_of d.at) (Some (figures_for r m d)))
 tallied_more r m table d known first last free t =
     let p = place_of d.at in
@@ -73,7 +74,7 @@ tallied_more r m table d known first last free t =
       agrees = λ f z i lt.
           let b = 31 * i in
           let g = λ (x : DayRow). f (rows.figures_in x) in
-          let more = sum_by-cons (λ (x : DayTaken). if_of x i (f (figures_for r m x))) d m.records in
+          let more = sum_by-cons (λ (x : SubmittedDay). if_of x i (f (figures_for r m x))) d m.records in
           let ih = t.agrees f z i lt in
           ⊎_elim
           (λ e.

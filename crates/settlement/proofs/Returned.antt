@@ -7,6 +7,7 @@ use Rattle.settlement.specs.Closing.{no_line, line_place, line_table}
 use Rattle.settlement.specs.Runs.{MonthClosed}
 use Rattle.settlement.specs.Accounts.{side, returned_lines}
 use Rattle.settlement.specs.declared.tables.LineEntry.{LineEntry}
+use Rattle.settlement.proofs.BothPools.{side_small}
 
 place_holds : (ls : Pool → List LineEntry) (p : Pool) (i : ℕ) → line_place (ls Generic) (ls Flexible) (2 * i + side p) ≡ get_or (ls p) i no_line
 place_holds ls Generic i =
@@ -17,10 +18,6 @@ place_holds ls Flexible i =
     let odd : (2 * i + 1) % 2 ≡ 1 = omega arith in
     let half : (2 * i + 1) / 2 ≡ i = omega arith in
     rw (odd, half) refl
-
-side_small : (p : Pool) → side p < 2
-side_small Generic = omega arith
-side_small Flexible = omega arith
 
 table_holds : (ls : Pool → List LineEntry) (n : ℕ) (p : Pool) (i : ℕ) → i < n → get_or (line_table (ls Generic) (ls Flexible) n) (2 * i + side p) no_line ≡ get_or (ls p) i no_line
 unfolding line_table

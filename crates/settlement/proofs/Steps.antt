@@ -1,8 +1,8 @@
 -- What the postings of a close and of a release do, in any kind of book that keeps the laws.
-use Rattle.std.proofs.Common.{◌≡◌, ℕ, zero, suc, ◌+◌, ◌-◌, ◌<◌, ◌≤◌, Bool, true, false, cond, ltb, List, sym, refl, ap, ◌∙◌, arith, ltb-false}
+use Rattle.std.proofs.Common.{◌≡◌, ℕ, zero, suc, ◌+◌, ◌-◌, ◌<◌, ◌≤◌, Bool, true, false, cond, ltb, List, sym, refl, ap, ◌∙◌, arith, ltb-false, get_or, ◌*◌}
 use Rattle.fund.specs.Balances.{limit}
 use Rattle.fund.specs.Laws.{with_room}
-use Rattle.fund.specs.Meaning.{FundMeaning, Lawful, Posted, Stood, with_at, binding_after}
+use Rattle.fund.specs.Meaning.{FundMeaning, Lawful, Posted, with_at, binding_after}
 use Rattle.pools.specs.PerPool.{entry_of}
 use Rattle.pools.specs.declared.per_pool.PerPool.{PerPool}
 use Rattle.pools.specs.declared.pool.Pool.{Pool}
@@ -14,6 +14,7 @@ use Rattle.settlement.specs.Releasing.{load_told, released}
 use Rattle.settlement.specs.declared.amounts.LoadAmount.TheVariants.{Share}
 use Rattle.settlement.specs.declared.tables.LoadEntry.{LoadEntry}
 use Rattle.settlement.specs.declared.tables.PoolClose.{PoolClose}
+use Rattle.settlement.proofs.BothPools.{pools}
 
 -- the shown balance of p became n, by at most k postings
 pub record Moves {S : Type 0} (m : FundMeaning S) (sound : S → Type 0) (s t : S) (p : Pool) (n k : ℕ) : Type 0 where
@@ -31,30 +32,29 @@ pub record Ready {S : Type 0} (m : FundMeaning S) (sound : S → Type 0) (s t : 
   pub standing : m.standing t ≡ m.standing s
   pub free : n ≤ m.free t
 
--- the steps of a close, each with what it leaves
-pub record CloseSteps {S : Type 0} (m : FundMeaning S) (sound : S → Type 0) (s : S) (c : PerPool PoolClose) : Type 0 where
-  pub ready : Ready m sound s (with_room m s 4) 4
-  pub first_funded : Funded m (with_room m s 4) Generic c.generic
-  pub first : Moves m sound (with_room m s 4) (posted m (with_room m s 4) Generic c.generic) Generic (m.shown (with_room m s 4) Generic + c.generic.charges - c.generic.payments) 2
-  pub second_funded : Funded m (posted m (with_room m s 4) Generic c.generic) Flexible c.flexible
-  pub second : Moves m sound (posted m (with_room m s 4) Generic c.generic) (month_posted m s c) Flexible (m.shown (posted m (with_room m s 4) Generic c.generic) Flexible + c.flexible.charges - c.flexible.payments) 2
+-- A step for each pool in turn: where it leads, when it may be made, and what it makes of the shown balance, by at most k postings.
+-- Whether it may be made hangs on the pool's shown balance only.
+pub record Steps {S : Type 0} (m : FundMeaning S) (sound : S → Type 0) (step : S → Pool → S) (Fits : S → Pool → Type 0) (new : Pool → ℕ → ℕ) (k : ℕ) : Type 0 where
+  pub moves : (s : S) (p : Pool) → sound s → k ≤ m.free s → Fits s p → Moves m sound s (step s p) p (new p (m.shown s p)) k
+  pub fits : (s t : S) (p : Pool) → m.shown t p ≡ m.shown s p → Fits s p → Fits t p
 
--- what a close leaves
-pub record Balanced {S : Type 0} (m : FundMeaning S) (sound : S → Type 0) (s t : S) (c : PerPool PoolClose) : Type 0 where
+-- where the steps of the first j pools lead
+abbrev pub in_turn : {S : Type 0} → (S → Pool → S) → S → ℕ → S
+in_turn step s zero = s
+in_turn step s (suc zero) = step s Generic
+in_turn step s (suc (suc j)) = step (step s Generic) Flexible
+
+-- what the steps of both pools leave
+pub record Balanced {S : Type 0} (m : FundMeaning S) (sound : S → Type 0) (s t : S) (new : Pool → ℕ → ℕ) : Type 0 where
   pub keeps : sound t
-  pub shown : (p : Pool) → m.shown t p ≡ m.shown s p + (entry_of c p).charges - (entry_of c p).payments
-  pub binds : m.standing s ≡ Binding → (p : Pool) → m.binding t p ≡ m.binding s p + (entry_of c p).charges - (entry_of c p).payments
+  pub shown : (p : Pool) → m.shown t p ≡ new p (m.shown s p)
+  pub binds : m.standing s ≡ Binding → (p : Pool) → m.binding t p ≡ new p (m.binding s p)
   pub advises : m.standing s ≡ Advisory → (p : Pool) → m.binding t p ≡ m.binding s p
   pub standing : m.standing t ≡ m.standing s
 
--- the steps of a release
-pub record ReleaseSteps {S : Type 0} (m : FundMeaning S) (sound : S → Type 0) (s : S) (es : List LoadEntry) : Type 0 where
-  pub stands : sound (m.stood s Binding) × Stood m s (m.stood s Binding) Binding
-  pub ready : Ready m sound (m.stood s Binding) (with_room m (m.stood s Binding) 2) 2
-  pub first_covered : load_told (Share Generic) es ≤ m.shown (with_room m (m.stood s Binding) 2) Generic
-  pub first : Moves m sound (with_room m (m.stood s Binding) 2) (posted_out m (with_room m (m.stood s Binding) 2) Generic (load_told (Share Generic) es)) Generic (m.shown (with_room m (m.stood s Binding) 2) Generic - load_told (Share Generic) es) 1
-  pub second_covered : load_told (Share Flexible) es ≤ m.shown (posted_out m (with_room m (m.stood s Binding) 2) Generic (load_told (Share Generic) es)) Flexible
-  pub second : Moves m sound (posted_out m (with_room m (m.stood s Binding) 2) Generic (load_told (Share Generic) es)) (released m s es) Flexible (m.shown (posted_out m (with_room m (m.stood s Binding) 2) Generic (load_told (Share Generic) es)) Flexible - load_told (Share Flexible) es) 1
+-- what the charges and payments of a close make of a balance
+abbrev pub closed_balance : PerPool PoolClose → Pool → ℕ → ℕ
+closed_balance c p n = n + (entry_of c p).charges - (entry_of c p).payments
 
 -- what a release leaves
 pub record Lighter {S : Type 0} (m : FundMeaning S) (sound : S → Type 0) (s t : S) (es : List LoadEntry) : Type 0 where
@@ -136,59 +136,66 @@ module _ {S : Type 0} (m : FundMeaning S) (sound : S → Type 0) (law : Lawful m
       record { keeps = t.0; shown = u.shown; binding = u.binding; standing = u.standing; free = omega (arith, t.1.free, (law.holds s k).sized) }
   readies_by s n false few k e = record { keeps = k; shown = λ q. refl; binding = λ q. refl; standing = refl; free = omega (arith, ltb-false _ _ e) }
 
-  pub readies : (s : S) (n : ℕ) → n ≤ 6 → sound s → Ready m sound s (with_room m s n) n
+  readies : (s : S) (n : ℕ) → n ≤ 6 → sound s → Ready m sound s (with_room m s n) n
   readies s n few k = readies_by s n (ltb (m.free s) n) few k refl
 
-  pub close_steps : (s : S) (c : PerPool PoolClose) → sound s → Funded m s Generic c.generic → Funded m s Flexible c.flexible → CloseSteps m sound s c
+  module _ {step : S → Pool → S} {Fits : S → Pool → Type 0} {new : Pool → ℕ → ℕ} {k : ℕ} (steps : Steps m sound step Fits new k) (s : S) (real : sound s) (few : 2 * k ≤ 6) (fit : (p : Pool) → Fits s p) where
+    abbrev roomy : S
+    roomy = with_room m s (2 * k)
+
+    ready : Ready m sound s roomy (2 * k)
+    ready = readies s (2 * k) few real
+
+    first : Moves m sound roomy (step roomy Generic) Generic (new Generic (m.shown roomy Generic)) k
+    first = steps.moves roomy Generic ready.keeps (omega (arith, ready.free)) (steps.fits s roomy Generic (ready.shown Generic) (fit Generic))
+
+    -- the next step may be made
+    pub next_fits : (j : ℕ) (d : Pool) → j < 2 → (k ≤ m.free (in_turn step roomy j)) × Fits (in_turn step roomy j) (get_or pools j d)
+    next_fits zero d h = (omega (arith, ready.free), steps.fits s roomy Generic (ready.shown Generic) (fit Generic))
+    next_fits (suc zero) d h = (omega (arith, ready.free, first.free), steps.fits s _ Flexible (first.shown Flexible ∙ ready.shown Flexible) (fit Flexible))
+    next_fits (suc (suc j)) d h = absurd (omega arith)
+
+    second : Moves m sound (step roomy Generic) (in_turn step roomy 2) Flexible (new Flexible (m.shown (step roomy Generic) Flexible)) k
+    second = let h = next_fits 1 Flexible (omega arith) in steps.moves (step roomy Generic) Flexible first.keeps h.0 h.1
+
+    both_shown : (p : Pool) → m.shown (in_turn step roomy 2) p ≡ new p (m.shown s p)
+    both_shown Generic = second.shown Generic ∙ first.shown Generic ∙ ap (new Generic) (ready.shown Generic)
+    both_shown Flexible = second.shown Flexible ∙ ap (new Flexible) (first.shown Flexible ∙ ready.shown Flexible)
+
+    pub both_made : Balanced m sound s (in_turn step roomy 2) new
+    both_made =
+        let st : m.standing (in_turn step roomy 2) ≡ m.standing s = second.standing ∙ first.standing ∙ ready.standing in
+        record {
+          keeps = second.keeps;
+          shown = both_shown;
+          binds = λ b p. sym ((law.holds (in_turn step roomy 2) second.keeps).agrees (st ∙ b) p) ∙ both_shown p ∙ ap (new p) ((law.holds s real).agrees b p);
+          advises = λ b p.
+              second.binding p ∙ ap (λ x. binding_after x (m.binding (step roomy Generic)) Flexible (new Flexible (m.shown (step roomy Generic) Flexible)) p) (first.standing ∙ ready.standing ∙ b)
+              ∙ first.binding p ∙ ap (λ x. binding_after x (m.binding roomy) Generic (new Generic (m.shown roomy Generic)) p) (ready.standing ∙ b)
+              ∙ ready.binding p;
+          standing = st;
+        }
+
+  pub close_steps : (c : PerPool PoolClose) → Steps m sound (λ s p. posted m s p (entry_of c p)) (λ s p. Funded m s p (entry_of c p)) (closed_balance c) 2
+  close_steps c = record {
+    moves = λ s p k f h. settles s p (entry_of c p) k f h;
+    fits = λ s t p e h. record { room = omega (arith, e, h.room); covered = omega (arith, e, h.covered) };
+  }
+
+  pub balanced : (s : S) (c : PerPool PoolClose) → sound s → ((p : Pool) → Funded m s p (entry_of c p)) → Balanced m sound s (month_posted m s c) (closed_balance c)
   unfolding month_posted
-  close_steps s c k hg hf =
-      let r = readies s 4 (omega arith) k in
-      let t = with_room m s 4 in
-      let fg : Funded m t Generic c.generic = record { room = omega (arith, r.shown Generic, hg.room); covered = omega (arith, r.shown Generic, hg.covered) } in
-      let a = settles t Generic c.generic r.keeps (omega (arith, r.free)) fg in
-      let ff : Funded m (posted m t Generic c.generic) Flexible c.flexible = record { room = omega (arith, a.shown Flexible, r.shown Flexible, hf.room); covered = omega (arith, a.shown Flexible, r.shown Flexible, hf.covered) } in
-      record { ready = r; first_funded = fg; first = a; second_funded = ff; second = settles _ Flexible c.flexible a.keeps (omega (arith, r.free, a.free)) ff }
+  balanced s c k h = both_made (close_steps c) s k (omega arith) h
 
-  close_shown : (s : S) (c : PerPool PoolClose) → CloseSteps m sound s c → (p : Pool) → m.shown (month_posted m s c) p ≡ m.shown s p + (entry_of c p).charges - (entry_of c p).payments
-  close_shown s c h Generic = omega (arith, h.second.shown Generic, h.first.shown Generic, h.ready.shown Generic)
-  close_shown s c h Flexible = omega (arith, h.second.shown Flexible, h.first.shown Flexible, h.ready.shown Flexible)
+  pub release_steps : (es : List LoadEntry) → Steps m sound (λ s p. posted_out m s p (load_told (Share p) es)) (λ s p. load_told (Share p) es ≤ m.shown s p) (λ p n. n - load_told (Share p) es) 1
+  release_steps es = record { moves = λ s p k f h. taken_out s p (load_told (Share p) es) k f h; fits = λ s t p e h. omega (arith, e, h) }
 
-  pub balanced : (s : S) (c : PerPool PoolClose) → sound s → CloseSteps m sound s c → Balanced m sound s (month_posted m s c) c
-  balanced s c k h =
-      let t = with_room m s 4 in
-      let u = posted m t Generic c.generic in
-      let st : m.standing (month_posted m s c) ≡ m.standing s = h.second.standing ∙ h.first.standing ∙ h.ready.standing in
-      record {
-        keeps = h.second.keeps;
-        shown = close_shown s c h;
-        binds = λ b p. omega (arith, close_shown s c h p, (law.holds (month_posted m s c) h.second.keeps).agrees (st ∙ b) p, (law.holds s k).agrees b p);
-        advises = λ b p.
-            h.second.binding p ∙ ap (λ x. binding_after x (m.binding u) Flexible (m.shown u Flexible + c.flexible.charges - c.flexible.payments) p) (h.first.standing ∙ h.ready.standing ∙ b)
-            ∙ h.first.binding p ∙ ap (λ x. binding_after x (m.binding t) Generic (m.shown t Generic + c.generic.charges - c.generic.payments) p) (h.ready.standing ∙ b)
-            ∙ h.ready.binding p;
-        standing = st;
-      }
-
-  pub release_steps : (s : S) (es : List LoadEntry) → sound s → ((p : Pool) → load_told (Share p) es ≤ m.binding s p) → ReleaseSteps m sound s es
+  pub lighter : (s : S) (es : List LoadEntry) → sound s → ((p : Pool) → load_told (Share p) es ≤ m.binding s p) → Lighter m sound s (released m s es) es
   unfolding released
-  release_steps s es k h =
+  lighter s es k h =
       let b = law.stood s Binding k tt in
-      let r = readies (m.stood s Binding) 2 (omega arith) b.0 in
-      let t = with_room m (m.stood s Binding) 2 in
-      let cg : load_told (Share Generic) es ≤ m.shown t Generic = omega (arith, r.shown Generic, b.1.shown Generic, h Generic) in
-      let a = taken_out t Generic (load_told (Share Generic) es) r.keeps (omega (arith, r.free)) cg in
-      let cf : load_told (Share Flexible) es ≤ m.shown (posted_out m t Generic (load_told (Share Generic) es)) Flexible = omega (arith, a.shown Flexible, r.shown Flexible, b.1.shown Flexible, h Flexible) in
-      record { stands = b; ready = r; first_covered = cg; first = a; second_covered = cf; second = taken_out _ Flexible (load_told (Share Flexible) es) a.keeps (omega (arith, r.free, a.free)) cf }
-
-  release_shown : (s : S) (es : List LoadEntry) → ReleaseSteps m sound s es → (p : Pool) → m.shown (released m s es) p ≡ m.binding s p - load_told (Share p) es
-  release_shown s es h Generic = omega (arith, h.second.shown Generic, h.first.shown Generic, h.ready.shown Generic, h.stands.1.shown Generic)
-  release_shown s es h Flexible = omega (arith, h.second.shown Flexible, h.first.shown Flexible, h.ready.shown Flexible, h.stands.1.shown Flexible)
-
-  pub lighter : (s : S) (es : List LoadEntry) → ReleaseSteps m sound s es → Lighter m sound s (released m s es) es
-  lighter s es h =
-      let st : m.standing (released m s es) ≡ Binding = h.second.standing ∙ h.first.standing ∙ h.ready.standing ∙ h.stands.1.standing in
+      let l = both_made (release_steps es) (m.stood s Binding) b.0 (omega arith) (λ p. omega (arith, h p, b.1.shown p)) in
       record {
-        keeps = h.second.keeps;
-        standing = st;
-        binding = λ p. sym ((law.holds (released m s es) h.second.keeps).agrees st p) ∙ release_shown s es h p;
+        keeps = l.keeps;
+        standing = l.standing ∙ b.1.standing;
+        binding = λ p. l.binds b.1.standing p ∙ ap (λ n. n - load_told (Share p) es) (b.1.binding p);
       }

@@ -4,7 +4,6 @@ use Rattle.std.specs.List.{range_with_len}
 use Rattle.assessment.specs.Rules.{Rule}
 use Rattle.assessment.specs.Days.{Rules, day_figures}
 use Rattle.assessment.specs.Lines.{line_of, assessed_days}
-use Rattle.assessment.specs.declared.day_result.PoolFigures.{PoolFigures}
 use Rattle.assessment.specs.Figures.{DayFigures}
 use Rattle.assessment.specs.declared.line.LineState.TheVariants.{Empty, Charged, Neutral, Paid}
 use Rattle.assessment.specs.declared.line.Line.{Line}
@@ -16,23 +15,19 @@ use Rattle.settlement.specs.Tables.{category_of}
 use Rattle.settlement.specs.Views.{View}
 use Rattle.settlement.specs.Closing.{if_paid, told, rate_of, no_line}
 use Rattle.settlement.specs.Releasing.{load_told}
-use Rattle.settlement.specs.Runs.{DayTaken, MonthRun, MonthClosed, Event, month_closed, fund_released, History, Run}
+use Rattle.settlement.specs.Runs.{MonthRun, MonthClosed, Event, month_closed, fund_released, History, Run}
 use Rattle.settlement.specs.declared.amounts.LineAmount.TheVariants.{Charges, Payments, EligibleQuantity}
 use Rattle.settlement.specs.declared.amounts.LoadAmount.TheVariants.{Share}
 use Rattle.settlement.specs.declared.tables.LineEntry.{LineEntry}
+use Rattle.settlement.specs.declared.tables.SubmittedDay.{SubmittedDay}
 
 -- the rule of a pool
 abbrev pub rule_in : Rules → Pool → Rule
 rule_in r Generic = r.generic
 rule_in r Flexible = r.flexible
 
--- a day's figures in a pool
-abbrev pub figures_in : DayFigures → Pool → PoolFigures
-figures_in f Generic = f.generic
-figures_in f Flexible = f.flexible
-
 -- what the two rules make of a taken record
-abbrev pub figures_for : Rules → MonthRun → DayTaken → DayFigures
+abbrev pub figures_for : Rules → MonthRun → SubmittedDay → DayFigures
 figures_for r m d = day_figures r (record {
   month = m.terms.month;
   category = category_of m.roster d.at.resource;
@@ -41,16 +36,16 @@ figures_for r m d = day_figures r (record {
 })
 
 -- a figure of a record, if it is of resource i, else 0
-abbrev pub if_of : DayTaken → ℕ → ℕ → ℕ
+abbrev pub if_of : SubmittedDay → ℕ → ℕ → ℕ
 if_of d i n = cond (d.at.resource == i) n 0
 
 -- O of a resource in a pool: a sum over its taken records
 abbrev pub owed_by : Rules → MonthRun → Pool → ℕ → ℕ
-owed_by r m p i = sum_by (λ d. if_of d i (figures_in (figures_for r m d) p).obligation) m.records
+owed_by r m p i = sum_by (λ d. if_of d i (entry_of (figures_for r m d) p).obligation) m.records
 
 -- A, likewise
 abbrev pub given_by : Rules → MonthRun → Pool → ℕ → ℕ
-given_by r m p i = sum_by (λ d. if_of d i (figures_in (figures_for r m d) p).availability) m.records
+given_by r m p i = sum_by (λ d. if_of d i (entry_of (figures_for r m d) p).availability) m.records
 
 -- the line of resource i in a pool, worked out by the two rules from the month's open, roster and taken records
 abbrev pub worked_line : Rules → MonthRun → Pool → ℕ → Line

@@ -4,7 +4,7 @@ use Rattle.std.specs.List.{range_with_len}
 use Rattle.assessment.specs.Days.{Rules}
 use Rattle.assessment.specs.Lines.{lines_of}
 use Rattle.assessment.specs.declared.trade_month.TradeMonth.{TradeMonth}
-use Rattle.assessment.specs.Figures.{DayRow, MonthLines}
+use Rattle.assessment.specs.Figures.{DayRow}
 use Rattle.assessment.specs.declared.line.LineState.{LineState}
 use Rattle.assessment.specs.declared.line.LineState.TheVariants.{Empty, Charged, Neutral, Paid}
 use Rattle.assessment.specs.declared.line.Line.{Line}
@@ -13,12 +13,14 @@ use Rattle.fund.specs.Laws.{with_room}
 use Rattle.fund.specs.Meaning.{FundMeaning}
 use Rattle.fund.specs.declared.fault.BookFault.{BookFault}
 use Rattle.fund.specs.declared.fault.BookFault.TheVariants.{UnfitPlaces, NoFreePlace, OverLimit, AboveBalance, NoAdvisoryMonths}
+use Rattle.pools.specs.PerPool.{entry_of}
 use Rattle.pools.specs.declared.per_pool.PerPool.{PerPool}
 use Rattle.pools.specs.declared.pool.Pool.{Pool}
 use Rattle.pools.specs.declared.pool.Pool.TheVariants.{Generic, Flexible}
 use Rattle.settlement.specs.Prices.{cents_at}
 use Rattle.settlement.specs.Tables.{category_of, places_of, AllFit}
-use Rattle.settlement.specs.Views.{View, Phase, fresh, open_at, closed, release_due, date_of, phase_closed}
+use Rattle.assessment.specs.Calendar.{date_of}
+use Rattle.settlement.specs.Views.{View, Phase, fresh, open_at, closed, release_due, phase_closed}
 use Rattle.settlement.specs.Recording.{IsOpen}
 use Rattle.settlement.specs.declared.amounts.LineAmount.{LineAmount}
 use Rattle.settlement.specs.declared.amounts.LineAmount.TheVariants.{Charges, Payments, EligibleQuantity}
@@ -80,14 +82,9 @@ told a es = sum_by (line_tells a) es
 abbrev pub rate_of : ℕ → ℕ → ℕ → ℕ
 rate_of price fund q = cond (q == 0) 0 (min (3 * price) (fund * 1000000 / q))
 
--- a resource's line in one of the pools
-abbrev pub line_of_pool : MonthLines → Pool → Line
-line_of_pool l Generic = l.generic
-line_of_pool l Flexible = l.flexible
-
 -- the line of resource i in a pool
 abbrev pub line_at : Rules → TradeMonth → List RosterEntry → List DayRow → Pool → ℕ → Line
-line_at r m roster rows p i = line_of_pool (lines_of r m (category_of roster i) (places_of rows i)) p
+line_at r m roster rows p i = entry_of (lines_of r m (category_of roster i) (places_of rows i)) p
 
 -- a pool's lines, resource by resource, with their charges
 unfoldable pub charged_entries : Rules → TradeMonth → ℕ → List RosterEntry → List DayRow → Pool → List LineEntry

@@ -1,12 +1,17 @@
 -- What each fault of a settlement carries: its number, its layer and its place.
-use Rattle.std.specs.Prelude.{ℕ, Some, None, Option}
+use Rattle.std.specs.Prelude.{ℕ, Some, None, Option, List, ◌++◌, codes, decimal}
 use Rattle.pools.specs.declared.pool.Pool.{Pool}
 use Rattle.fund.specs.Faults as book
 use Rattle.fund.specs.declared.label.Label.{Label}
 use Rattle.settlement.specs.declared.fault.SettlementFault.{SettlementFault}
 use Rattle.settlement.specs.declared.fault.SettlementFault.TheVariants.{UnfitTables, OutOfTurn, UnfitTerms, NotNextMonth, UnfitLoads, UnknownResource, NoSuchDay, AlreadyRecorded, DayOverLimit, FlexibleInCategory0, Book}
 use Rattle.settlement.specs.declared.fault.FaultPlace.{FaultPlace}
+use Rattle.settlement.specs.declared.fault.ResourceDay.{ResourceDay}
 use Rattle.settlement.specs.declared.fault.FaultPlace.TheVariants as place
+
+-- how a resource's day is printed
+abbrev pub day_words : ResourceDay → List ℕ
+day_words at = codes "resource " ++ (decimal at.resource ++ (codes ", day " ++ decimal at.day))
 
 -- the settlement's own layer has the letter S
 abbrev pub labelled : ℕ → Option FaultPlace → Label (Option FaultPlace)

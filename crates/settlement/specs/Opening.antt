@@ -1,6 +1,6 @@
 -- Starting a settlement, and opening a month.
 use Rattle.std.specs.Prelude.{◌≡◌, ℕ, ◌≤◌, cond, List, length, replicate, Ok, Err, Result, ◌==◌, None}
-use Rattle.assessment.specs.Calendar.{MonthWithin}
+use Rattle.assessment.specs.Calendar.{MonthWithin, next_month, date_of}
 use Rattle.assessment.specs.declared.trade_month.TradeMonth.{TradeMonth}
 use Rattle.assessment.specs.Figures.{DayRow}
 use Rattle.fund.specs.Meaning.{FundMeaning, TakesStanding, RefusesStanding}
@@ -8,7 +8,7 @@ use Rattle.fund.specs.declared.standing.Standing.{Standing}
 use Rattle.fund.specs.declared.standing.Standing.TheVariants.{Binding, Advisory}
 use Rattle.pools.specs.declared.pool.Pool.TheVariants.{Generic, Flexible}
 use Rattle.settlement.specs.Tables.{DaysFit}
-use Rattle.settlement.specs.Views.{View, Phase, fresh, open_at, closed, release_due, next_month, date_of}
+use Rattle.settlement.specs.Views.{View, Phase, fresh, open_at, closed, release_due}
 use Rattle.settlement.specs.declared.fault.SettlementFault.{SettlementFault}
 use Rattle.settlement.specs.declared.fault.SettlementFault.TheVariants.{UnfitTables, OutOfTurn, UnfitTerms, NotNextMonth, UnfitLoads, UnknownResource, NoSuchDay, AlreadyRecorded, DayOverLimit, FlexibleInCategory0, Book}
 use Rattle.settlement.specs.declared.tables.RosterEntry.{RosterEntry}

@@ -1,10 +1,10 @@
 -- Prices and rates.
 use Rattle.std.specs.Prelude.{◌≡◌, ℕ, ◌*◌, ◌/◌, ◌<◌, Result, MatchResult}
+use Rattle.pools.specs.declared.out_of_range.OutOfRange.{OutOfRange}
 use Rattle.settlement.specs.declared.price.Price.{Price}
-use Rattle.settlement.specs.declared.price.UnfitPrice.{UnfitPrice}
 
 -- a price of so many cents; one above 500,000 is none
-abbrev pub IsPriced : ℕ → Result Price UnfitPrice → Type 0
+abbrev pub IsPriced : ℕ → Result Price OutOfRange → Type 0
 IsPriced cents r = MatchResult r (λ p. p.cents ≡ cents) (λ e. (e.0 ≡ cents) × (500000 < cents))
 
 -- the cents for a quantity in watts, at cents per megawatt

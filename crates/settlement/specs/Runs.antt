@@ -18,15 +18,11 @@ use Rattle.settlement.specs.declared.tables.LoadEntry.{LoadEntry}
 use Rattle.settlement.specs.declared.tables.SubmittedDay.{SubmittedDay}
 use Rattle.settlement.specs.declared.tables.PoolClose.{PoolClose}
 
--- a taken record, as it was handed in
-abbrev pub DayTaken : Type 0
-DayTaken = SubmittedDay
-
--- a month from its taken open on: what the open was handed, and the records taken since, the latest first
+-- a month from its taken open on: what the open was handed, and the days recorded since, as they were handed in, the latest first
 pub record MonthRun : Type 0 where
   pub terms : MonthTerms
   pub roster : List RosterEntry
-  pub records : List DayTaken
+  pub records : List SubmittedDay
 
 -- a closed month: the shown balances looked up before its close, and what the close returned
 pub record MonthClosed : Type 0 where
@@ -70,7 +66,7 @@ after_open h t roster (Ok x) rows' = record {
 after_open h t roster (Err e) rows' = h
 
 -- one record more in the open month
-abbrev pub noted : Option OpenRun → DayTaken → List DayRow → Option OpenRun
+abbrev pub noted : Option OpenRun → SubmittedDay → List DayRow → Option OpenRun
 noted None d rows' = None
 noted (Some o) d rows' = Some (record {
   month = record { terms = o.month.terms; roster = o.month.roster; records = d ∷ o.month.records };
@@ -78,7 +74,7 @@ noted (Some o) d rows' = Some (record {
 })
 
 -- a record joins the open month
-abbrev pub after_record : History → DayTaken → Result DayFigures SettlementFault → List DayRow → History
+abbrev pub after_record : History → SubmittedDay → Result DayFigures SettlementFault → List DayRow → History
 after_record h d (Ok f) rows' = record { opening = h.opening; past = h.past; current = noted h.current d rows' }
 after_record h d (Err e) rows' = h
 
@@ -108,7 +104,7 @@ pub data Run {S : Type 0} (m : FundMeaning S) (sound : S → Type 0) (r : Rules)
   starts : (s : S) → sound s → Run m sound r (no_history (m.binding s)) (started m s)
   opens : {h : History} {v w : View S} (t : MonthTerms) (roster : List RosterEntry) (rows rows' : List DayRow) (a : Result (Unit {0}) SettlementFault)
       → Run m sound r h v → Opens m v t roster rows a w rows' → Run m sound r (after_open h t roster a rows') w
-  records : {h : History} {v : View S} (roster : List RosterEntry) (rows rows' : List DayRow) (d : DayTaken) (a : Result DayFigures SettlementFault)
+  records : {h : History} {v : View S} (roster : List RosterEntry) (rows rows' : List DayRow) (d : SubmittedDay) (a : Result DayFigures SettlementFault)
       → Run m sound r h v → HandedIfTaken h.current roster rows a → Records r v.phase roster rows d.at d.submission a rows' → Run m sound r (after_record h d a rows') v
   closes : {h : History} {v w : View S} (roster : List RosterEntry) (rows : List DayRow) (lines lines' : List LineEntry) (a : Result (PerPool PoolClose) SettlementFault)
       → Run m sound r h v → HandedIfTaken h.current roster rows a → Closes m r v roster rows lines a w lines' → Run m sound r (after_close h (m.shown v.book) a lines') w
@@ -120,7 +116,7 @@ module _ {S : Type 0} (m : FundMeaning S) (sound : S → Type 0) where
   abbrev pub OpenGoesOn : Rules → View S → MonthTerms → List RosterEntry → Result (Unit {0}) SettlementFault → Rules → View S → List DayRow → Type 0
   OpenGoesOn r v t roster a r' w rows' = (h : History) → Run m sound r h v → Run m sound r' (after_open h t roster a rows') w
 
-  abbrev pub RecordGoesOn : Rules → View S → List RosterEntry → List DayRow → DayTaken → Result DayFigures SettlementFault → List DayRow → Type 0
+  abbrev pub RecordGoesOn : Rules → View S → List RosterEntry → List DayRow → SubmittedDay → Result DayFigures SettlementFault → List DayRow → Type 0
   RecordGoesOn r v roster rows d a rows' =
       (h : History) → Run m sound r h v → HandedIfTaken h.current roster rows a → Run m sound r (after_record h d a rows') v
 

@@ -4,7 +4,7 @@ use Rattle.assessment.specs.declared.trade_month.TradeMonth.{TradeMonth}
 use Rattle.pools.specs.declared.per_pool.PerPool.{PerPool}
 use Rattle.settlement.specs.declared.stage.Stage.{Stage}
 use Rattle.settlement.specs.declared.stage.Stage.TheVariants.{Fresh, Open, Closed, ReleaseDue}
-use Rattle.settlement.specs.declared.stage.MonthDate.{MonthDate}
+use Rattle.assessment.specs.declared.month_date.MonthDate.{MonthDate}
 use Rattle.settlement.specs.declared.settlement.Settlement.{Settlement}
 
 -- fresh; a month open at a price; a month closed; a December closed whose release is due
@@ -30,14 +30,6 @@ pub record View (S : Type 0) : Type 0 where
 -- the view of a settlement; `state` tells the state of its book
 abbrev pub view : {S B G F : Type 0} → (B → S) → Settlement B G F → View S
 view state s = record { opening = s.opening; phase = phase_of s.stage; book = state s.book }
-
--- the month after this one
-abbrev pub next_month : MonthDate → MonthDate
-next_month d = record { year = cond (d.month == 12) (d.year + 1) d.year; month = cond (d.month == 12) 1 (d.month + 1) }
-
--- year and month of a trade month
-abbrev pub date_of : TradeMonth → MonthDate
-date_of m = record { year = m.year; month = m.month }
 
 -- after December's close a release is due
 abbrev pub phase_closed : MonthDate → Phase

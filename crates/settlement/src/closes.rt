@@ -1,76 +1,86 @@
 // Closing a month: an assessing part, a paying part, and the postings.
-ghost use Rattle.std.specs.Prelude.{◌≡◌, ◌*◌, length, OnErr};
-ghost use Rattle.settlement.specs.Closing.{LinesClose, Closes};
+ghost use Rattle.std.specs.Prelude.{◌≡◌, ◌*◌, length, take, OnErr};
+ghost use Rattle.pools.specs.PerPool.{entry_of, with_entry};
+ghost use Rattle.settlement.specs.Closing.{QuantitiesWithin, ClosesPool, LinesClose, Closes};
 ghost use Rattle.settlement.specs.Runs.{CloseGoesOn};
 ghost use Rattle.assessment.specs.Pairs.{rules_of};
-ghost use Rattle.settlement.specs.Views.{view, date_of, phase_of, phase_closed};
+ghost use Rattle.settlement.specs.Views.{view, phase_of, phase_closed};
 
 use crate::checks::{MOST_RESOURCES, all_fit};
 use crate::fault::SettlementFault;
 use crate::pays::{close_pool, write_table};
 use crate::postings::post_month;
 use crate::settlement::Settlement;
-use crate::stage::{MonthDate, Stage};
+use crate::stage::Stage;
 use crate::tables::{LineEntry, PoolClose, RosterEntry};
 use crate::workings::MonthTables;
 use assessment::day_result::DayRow;
+use assessment::month_date::{DECEMBER, MonthDate};
 use assessment::rule::AvailabilityRule;
-use assessment::trade_month::TradeMonth;
 use fund::book::FundBook;
+use fund::fault::BookFault;
 use pools::per_pool::PerPool;
 use pools::pool::Pool;
 
-const DECEMBER: u32 = 12;
-
-impl From<&TradeMonth> for MonthDate {
-    ghost from_gives = { λ m d. d ≡ date_of m.now };
-
-    fn from(month: &TradeMonth) -> MonthDate {
-        MonthDate {
-            year: month.year,
-            month: month.month,
-        }
-    }
-}
-
-impl MonthDate {
+impl Stage {
     // After a December a release is due.
-    fn closed(self) -> Stage
-        ensures { phase_of result ≡ phase_closed self }
+    fn after_close(month: MonthDate) -> Stage
+        ensures { phase_of result ≡ phase_closed month }
     {
-        if self.month == DECEMBER {
-            Stage::ReleaseDue(self)
+        if month.month == DECEMBER {
+            Stage::ReleaseDue(month)
         } else {
-            Stage::Closed(self)
+            Stage::Closed(month)
         }
     }
 }
 
 impl<B: FundBook, G: AvailabilityRule, F: AvailabilityRule> Settlement<B, G, F> {
-    // Works out both pools in the space lent, and writes the line table only when both funds are within the limit.
+    // Closes a pool of the lines worked out, by what the book shows of it.
+    fn close_in(
+        &self,
+        pool: Pool,
+        tables: &MonthTables<'_>,
+        entries: &mut PerPool<[LineEntry; MOST_RESOURCES]>,
+    ) -> Result<PoolClose, BookFault>
+        requires { QuantitiesWithin (take (length tables.now.roster.now) (entry_of entries.old pool)) }
+        ensures closes { ClosesPool tables.now.month.now.price.cents (B.means.shown (B.state self.now.book) pool) pool (take (length tables.now.roster.now) (entry_of entries.old pool)) result (take (length tables.now.roster.now) (entry_of entries.new pool)) }
+        ensures others { entries.new ≡ with_entry entries.old pool (entry_of entries.new pool) }
+    {
+        let resources = tables.roster.len();
+        let shown = self.book.shown(pool);
+        close_pool(
+            &mut entries.entry(pool)[0..resources],
+            pool,
+            tables.month.price,
+            shown,
+        )
+    }
+
+    // Works out and closes both pools, and writes the line table only when both funds are within the limit.
     fn close_lines(
         &self,
         tables: &MonthTables<'_>,
-        generic: &mut [LineEntry],
-        flexible: &mut [LineEntry],
         lines: &mut [LineEntry],
     ) -> Result<PerPool<PoolClose>, SettlementFault>
         requires fit { length lines.old ≡ 2 * length tables.now.roster.now }
-        requires generic_long { length generic.old ≡ length tables.now.roster.now }
-        requires flexible_long { length flexible.old ≡ length tables.now.roster.now }
         ensures { LinesClose B.means (rules_of G.means F.means self.now.rules) (B.state self.now.book) tables.now.month.now.settings.month tables.now.month.now.price.cents tables.now.roster.now tables.now.rows.now lines.old result lines.new }
     {
-        tables.work_out(&self.rules, generic, flexible);
-        let price = tables.month.price;
-        let shown = self.book.shown(Pool::Generic);
-        let generic_close = close_pool(generic, Pool::Generic, price, shown)?;
-        let shown = self.book.shown(Pool::Flexible);
-        let flexible_close = close_pool(flexible, Pool::Flexible, price, shown)?;
-        write_table(lines, generic, flexible);
-        Ok(PerPool {
-            generic: generic_close,
-            flexible: flexible_close,
-        })
+        let mut entries = tables.work_out(&self.rules);
+        // Two calls, since in a loop a pool would need a close before it is closed.
+        let pools = PerPool {
+            generic: self.close_in(Pool::Generic, tables, &mut entries)?,
+            flexible: self.close_in(Pool::Flexible, tables, &mut entries)?,
+        };
+        let resources = tables.roster.len();
+        write_table(
+            lines,
+            &PerPool {
+                generic: &entries.generic[0..resources],
+                flexible: &entries.flexible[0..resources],
+            },
+        );
+        Ok(pools)
     }
 
     // Closes the month: writes its lines, posts each pool's charges and payments, and answers them with the rates.
@@ -88,26 +98,18 @@ impl<B: FundBook, G: AvailabilityRule, F: AvailabilityRule> Settlement<B, G, F> 
         if !all_fit(roster, rows, lines) {
             return Err(SettlementFault::UnfitTables);
         }
+        // No `?`, since a stage carries no error.
         let Stage::Open(month) = self.stage else {
             return Err(SettlementFault::OutOfTurn);
         };
-        let resources = roster.len();
-        // Space of the call's own, of a fixed size: a close has no want of memory among its answers.
-        let mut generic = [LineEntry::EMPTY; MOST_RESOURCES];
-        let mut flexible = [LineEntry::EMPTY; MOST_RESOURCES];
         let tables = MonthTables {
             month: &month,
             roster,
             rows,
         };
-        let pools = self.close_lines(
-            &tables,
-            &mut generic[0..resources],
-            &mut flexible[0..resources],
-            lines,
-        )?;
-        post_month(&mut self.book, pools)?;
-        self.stage = MonthDate::from(&month.settings.month).closed();
+        let pools = self.close_lines(&tables, lines)?;
+        post_month(&mut self.book, pools);
+        self.stage = Stage::after_close(MonthDate::from(&month.settings.month));
         Ok(pools)
     }
 }

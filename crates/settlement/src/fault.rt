@@ -1,9 +1,12 @@
 // Why a settlement refuses a call.
-ghost use Rattle.std.specs.Prelude.{◌≡◌};
+ghost use Rattle.std.specs.Prelude.{◌≡◌, Some};
+ghost use Rattle.settlement.specs.Faults.{day_words};
 ghost use Rattle.settlement.specs.declared.fault.SettlementFault.TheVariants.{Book};
 
 use fund::fault::BookFault;
 use pools::pool::Pool;
+use std::fmt;
+use thiserror::Error;
 
 // A resource's day, by number.
 #[derive(Clone, Copy, PartialEq, Eq, Debug)]
@@ -12,18 +15,37 @@ pub struct ResourceDay {
     pub day: u32,
 }
 
-#[derive(Clone, Copy, PartialEq, Eq, Debug)]
+impl fmt::Display for ResourceDay {
+    ghost output = { λ at. Some (day_words at) };
+
+    fn fmt<W: fmt::Write>(&self, f: &mut fmt::Formatter<W>) -> fmt::Result {
+        write!(f, "resource {}, day {}", self.resource, self.day)
+    }
+}
+
+#[derive(Clone, Copy, PartialEq, Eq, Debug, Drop, Error)]
 pub enum SettlementFault {
+    #[error("the roster or a table is outside its limits")]
     UnfitTables,
+    #[error("it is not this call's turn")]
     OutOfTurn,
+    #[error("the terms of the month are outside their limits")]
     UnfitTerms,
+    #[error("the month is not the next one")]
     NotNextMonth,
+    #[error("the loads are outside their limits")]
     UnfitLoads,
+    #[error("{0}: the roster lacks the resource")]
     UnknownResource(ResourceDay),
+    #[error("{0}: the month lacks the day")]
     NoSuchDay(ResourceDay),
+    #[error("{0}: the day is recorded already")]
     AlreadyRecorded(ResourceDay),
+    #[error("{0}: a showing, bid or exemption is over its limit")]
     DayOverLimit(ResourceDay),
+    #[error("{0}: flexible capacity is shown in category 0")]
     FlexibleInCategory0(ResourceDay),
+    #[error("{0}")]
     Book(BookFault),
 }
 

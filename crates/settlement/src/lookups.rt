@@ -9,32 +9,28 @@ use crate::settlement::Settlement;
 use crate::stage::Stage;
 use assessment::rule::AvailabilityRule;
 use fund::book::FundBook;
+use fund::every_book::{Account, account_of};
 use fund::standing::Standing;
 use pools::pool::Pool;
 
-// A pool's balances, in cents.
+// A pool's balances, in cents: what it held when the settlement was started, and what the book holds and shows now.
 #[derive(Clone, Copy, PartialEq, Eq, Debug)]
 pub struct PoolAccount {
-    // What the pool held when the settlement was started.
     pub opening: u64,
-    // What it holds by its binding months and releases.
-    pub binding: u64,
-    // What the book shows, an advisory month included.
-    pub shown: u64,
+    pub balances: Account,
 }
 
 impl<B: FundBook, G: AvailabilityRule, F: AvailabilityRule> Settlement<B, G, F> {
     // The balances of a pool; and what the accountant can show of every run that ends here.
     pub fn account(&self, pool: Pool) -> PoolAccount
         ensures opening { result.opening ≡ entry_of self.now.opening pool }
-        ensures binding { result.binding ≡ B.means.binding (B.state self.now.book) pool }
-        ensures shown { result.shown ≡ B.means.shown (B.state self.now.book) pool }
+        ensures binding { result.balances.binding ≡ B.means.binding (B.state self.now.book) pool }
+        ensures shown { result.balances.shown ≡ B.means.shown (B.state self.now.book) pool }
         ensures law { AccountantsLaw B.means B.sound (rules_of G.means F.means self.now.rules) (view B.state self.now) }
     {
         PoolAccount {
             opening: self.opening.get(pool),
-            binding: self.book.binding(pool),
-            shown: self.book.shown(pool),
+            balances: account_of(&self.book, pool),
         }
     }
 

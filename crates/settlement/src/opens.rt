@@ -1,17 +1,18 @@
 // Starting a settlement, and opening a month.
-ghost use Rattle.std.specs.Prelude.{◌≡◌, length, replicate, MatchBool, MatchOption, OnErr, ◌≢◌};
+ghost use Rattle.std.specs.Prelude.{◌≡◌, length, replicate, MatchBool, MatchOption, OnErr};
 ghost use Rattle.settlement.specs.Opening.{started, MayOpen, Follows, TermsWithin, standing_of, Opens};
 ghost use Rattle.settlement.specs.Runs.{Run, no_history, OpenGoesOn};
 ghost use Rattle.assessment.specs.Pairs.{rules_of};
-ghost use Rattle.settlement.specs.Views.{view, phase_of, date_of, next_month};
+ghost use Rattle.settlement.specs.Views.{view, phase_of};
 
 use crate::checks::days_fit;
 use crate::fault::SettlementFault;
 use crate::price::Price;
 use crate::settlement::Settlement;
-use crate::stage::{MonthDate, OpenMonth, Stage};
+use crate::stage::{OpenMonth, Stage};
 use crate::tables::{MonthTerms, RosterEntry};
 use assessment::day_result::DayRow;
+use assessment::month_date::MonthDate;
 use assessment::rule::AvailabilityRule;
 use assessment::rule_pair::RulePair;
 use assessment::settings::MonthSettings;
@@ -20,20 +21,6 @@ use fund::book::FundBook;
 use fund::standing::Standing;
 use pools::per_pool::PerPool;
 use pools::pool::Pool;
-
-impl MonthDate {
-    // Widened, so that no date is too late to have a next month.
-    fn is_followed_by(&self, month: &TradeMonth) -> bool
-        ensures { MatchBool result (date_of month.now ≡ next_month self.now) (date_of month.now ≢ next_month self.now) }
-    {
-        let (year, following) = if self.month == 12 {
-            (u64::from(self.year) + 1, 1)
-        } else {
-            (u64::from(self.year), u64::from(self.month) + 1)
-        };
-        u64::from(month.year) == year && u64::from(month.month) == following
-    }
-}
 
 impl Stage {
     fn may_open(&self) -> bool
@@ -51,14 +38,14 @@ impl Stage {
     {
         match self {
             Stage::Fresh => true,
-            Stage::Closed(last) => last.is_followed_by(month),
+            Stage::Closed(last) => last.next() == Some(MonthDate::from(month)),
             Stage::Open(_) | Stage::ReleaseDue(_) => false,
         }
     }
 }
 
 // What a month is opened with, within its limits.
-#[derive(Clone, Copy)]
+#[derive(Clone, Copy, PartialEq, Eq, Debug)]
 struct FitTerms {
     month: OpenMonth,
     standing: Standing,
@@ -76,12 +63,6 @@ fn fit_terms(terms: &MonthTerms) -> Option<FitTerms>
     })
 }
 
-fn empty_days(rows: &mut [DayRow])
-    ensures { rows.new ≡ replicate (length rows.old) None }
-{
-    rows.fill(None);
-}
-
 impl<B: FundBook, G: AvailabilityRule, F: AvailabilityRule> Settlement<B, G, F> {
     // A settlement over the book, which it stands binding, and the two rules.
     pub fn start(mut book: B, rules: RulePair<G, F>) -> Settlement<B, G, F>
@@ -89,7 +70,7 @@ impl<B: FundBook, G: AvailabilityRule, F: AvailabilityRule> Settlement<B, G, F> 
         ensures rules { result.rules ≡ rules }
         ensures runs { Run B.means B.sound (rules_of G.means F.means result.rules) (no_history (B.means.binding (B.state book))) (view B.state result) }
     {
-        let _ = book.stand(Standing::Binding);
+        book.stand(Standing::Binding).unwrap();
         let opening = PerPool::of(|pool| book.binding(pool));
         Settlement {
             book,
@@ -123,7 +104,7 @@ impl<B: FundBook, G: AvailabilityRule, F: AvailabilityRule> Settlement<B, G, F> 
         }
         self.book.stand(standing)?;
         self.stage = Stage::Open(month);
-        empty_days(rows);
+        rows.fill(None);
         Ok(())
     }
 }

@@ -7,11 +7,12 @@ ghost use Rattle.settlement.specs.declared.amounts.LineAmount.TheVariants.{Eligi
 use crate::amounts::LineAmount;
 use crate::checks::MOST_RESOURCES;
 use crate::price::{Price, Rate};
-use crate::tables::{LineEntry, PoolClose, pool_at};
+use crate::tables::{LINES, LineEntry, PoolClose, pool_at};
 use assessment::line::LineState;
 use fund::book::LIMIT;
 use fund::fault::BookFault;
 use fund::total::{TellsAmount, total};
+use pools::per_pool::PerPool;
 use pools::pool::Pool;
 
 // The rate that eligible lines are paid, in cents for a megawatt and month.
@@ -24,12 +25,14 @@ pub(crate) fn rate_for(price: Price, fund: u64, quantity: u128) -> Rate
     }
     let triple = 3 * u128::from(price.cents);
     let all_of_it = u128::from(fund) * 1_000_000 / quantity;
+    // The cast loses nothing, since a rate is triple the price at most.
     Rate {
         cents: triple.min(all_of_it) as u64,
     }
 }
 
-// The eligible quantity of each line, 0 where it is not eligible, in a table of its own: the form that is asked for.
+// The eligible quantity of each line, 0 where it is not eligible, in a table of its own that is filled by place: the form
+// that is asked for.
 fn eligible_quantities(entries: &[LineEntry]) -> [u64; MOST_RESOURCES]
     requires { length entries.now ≤ 512 }
     ensures eligible { (k : ℕ) → k < length entries.now → slice_index result k ≡ line_tells EligibleQuantity (slice_index_or entries.now k no_line) }
@@ -51,10 +54,7 @@ fn paid(entry: LineEntry, rate: Rate, quantity: u64) -> LineEntry
         LineState::Paid => rate.cents_for(quantity),
         LineState::Empty | LineState::Charged | LineState::Neutral => entry.cents,
     };
-    LineEntry {
-        line: entry.line,
-        cents,
-    }
+    LineEntry { cents, ..entry }
 }
 
 // Pays every eligible line at the rate, from a table of the eligible quantities. The place is counted, since of lines
@@ -70,7 +70,8 @@ fn pay(entries: &mut [LineEntry], rate: Rate)
     }
 }
 
-// A pool's close: its fund within the limit, or the fault; then its rate and its payments.
+// A pool's close, by the price of its charges and what the book shows: its fund within the limit, or the fault; then its rate
+// and its payments.
 pub(crate) fn close_pool(
     entries: &mut [LineEntry],
     pool: Pool,
@@ -86,6 +87,7 @@ pub(crate) fn close_pool(
     if charges > u128::from(LIMIT - shown) {
         return Err(BookFault::OverLimit(pool));
     }
+    // Neither cast loses anything: the fund is within the limit, and the payments are within the fund.
     let charges = charges as u64;
     let quantity = total(entries, LineAmount::EligibleQuantity);
     let rate = rate_for(price, shown + charges, quantity);
@@ -98,25 +100,13 @@ pub(crate) fn close_pool(
     })
 }
 
-// The line that belongs in a place of the line table.
-fn line_for(place: usize, generic: &[LineEntry], flexible: &[LineEntry]) -> LineEntry
-    requires there { place < 2 * length generic.now }
-    requires alike { length flexible.now ≡ length generic.now }
-    ensures { result ≡ line_place generic.now flexible.now place }
-{
-    match pool_at(place) {
-        Pool::Generic => generic[place / 2],
-        Pool::Flexible => flexible[place / 2],
-    }
-}
-
-// Two entries a resource, generic first.
-pub(crate) fn write_table(lines: &mut [LineEntry], generic: &[LineEntry], flexible: &[LineEntry])
-    requires two_each { length lines.old ≡ 2 * length generic.now }
-    requires alike { length flexible.now ≡ length generic.now }
-    ensures { lines.new ≡ line_table generic.now flexible.now (length generic.now) }
+// Two entries a resource, generic first. The place is counted, since it tells the pool and the resource.
+pub(crate) fn write_table(lines: &mut [LineEntry], entries: &PerPool<&[LineEntry]>)
+    requires two_each { length lines.old ≡ 2 * length entries.now.generic.now }
+    requires alike { length entries.now.flexible.now ≡ length entries.now.generic.now }
+    ensures { lines.new ≡ line_table entries.now.generic.now entries.now.flexible.now (length entries.now.generic.now) }
 {
     for (place, entry) in lines.iter_mut().enumerate() {
-        *entry = line_for(place, generic, flexible);
+        *entry = entries.get(pool_at(place))[place / LINES];
     }
 }

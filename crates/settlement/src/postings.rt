@@ -1,8 +1,8 @@
-// The postings of a close and of a release. Their tests have passed, so no book refuses them.
-ghost use Rattle.std.specs.Prelude.{◌≡◌, ◌+◌, ◌<◌, ◌≤◌, MatchResult};
+// The postings of a close and of a release. Their tests have passed, so no book refuses them, and each is unwrapped.
+ghost use Rattle.std.specs.Prelude.{◌≡◌, ◌+◌, ◌<◌, ◌≤◌};
 ghost use Rattle.fund.specs.Balances.{limit};
+ghost use Rattle.pools.specs.PerPool.{entry_of};
 ghost use Rattle.pools.specs.declared.pool.Pool.{Pool};
-ghost use Rattle.pools.specs.declared.pool.Pool.TheVariants.{Generic, Flexible};
 ghost use Rattle.settlement.specs.Releasing.{load_told, shares_posted};
 ghost use Rattle.settlement.specs.declared.amounts.LoadAmount.TheVariants.{Share};
 ghost use Rattle.settlement.specs.Closing.{posted_in, posted_out, posted, month_posted, Funded};
@@ -11,71 +11,65 @@ use crate::amounts::LoadAmount;
 use crate::tables::{LoadEntry, PoolClose};
 use fund::book::FundBook;
 use fund::every_book::make_room;
-use fund::fault::BookFault;
 use fund::total::total;
 use pools::per_pool::PerPool;
 use pools::pool::Pool;
 
+// The most postings that a close makes: charges in and payments out, in each pool.
 const CLOSE_POSTINGS: usize = 4;
 
+// The most that a release makes: one out of each pool.
 const RELEASE_POSTINGS: usize = 2;
 
 // Zero is not posted. The two differ in the call of the book that they make, which has no direction as a parameter.
-fn post_in<B: FundBook>(book: &mut B, pool: Pool, amount: u64) -> Result<(), BookFault>
+fn post_in<B: FundBook>(book: &mut B, pool: Pool, amount: u64)
     requires place { 0 < B.means.free (B.state book.old) }
     requires room { B.means.shown (B.state book.old) pool + amount ≤ limit }
-    ensures { MatchResult result (λ _. B.state book.new ≡ posted_in B.means (B.state book.old) pool amount) (λ _. ⊥) }
+    ensures { B.state book.new ≡ posted_in B.means (B.state book.old) pool amount }
 {
     if amount > 0 {
-        book.post_in(pool, amount)?;
+        book.post_in(pool, amount).unwrap();
     }
-    Ok(())
 }
 
-fn post_out<B: FundBook>(book: &mut B, pool: Pool, amount: u64) -> Result<(), BookFault>
+fn post_out<B: FundBook>(book: &mut B, pool: Pool, amount: u64)
     requires place { 0 < B.means.free (B.state book.old) }
     requires covered { amount ≤ B.means.shown (B.state book.old) pool }
-    ensures { MatchResult result (λ _. B.state book.new ≡ posted_out B.means (B.state book.old) pool amount) (λ _. ⊥) }
+    ensures { B.state book.new ≡ posted_out B.means (B.state book.old) pool amount }
 {
     if amount > 0 {
-        book.post_out(pool, amount)?;
+        book.post_out(pool, amount).unwrap();
     }
-    Ok(())
 }
 
-fn post_pool<B: FundBook>(book: &mut B, pool: Pool, close: PoolClose) -> Result<(), BookFault>
+fn post_pool<B: FundBook>(book: &mut B, pool: Pool, close: PoolClose)
     requires places { 2 ≤ B.means.free (B.state book.old) }
     requires funded { Funded B.means (B.state book.old) pool close }
-    ensures { MatchResult result (λ _. B.state book.new ≡ posted B.means (B.state book.old) pool close) (λ _. ⊥) }
+    ensures { B.state book.new ≡ posted B.means (B.state book.old) pool close }
 {
-    post_in(book, pool, close.charges)?;
-    post_out(book, pool, close.payments)
+    post_in(book, pool, close.charges);
+    post_out(book, pool, close.payments);
 }
 
 // Makes room for four postings, then posts each pool's charges and payments, generic first.
-pub(crate) fn post_month<B: FundBook>(
-    book: &mut B,
-    pools: PerPool<PoolClose>,
-) -> Result<(), BookFault>
-    requires generic { Funded B.means (B.state book.old) Generic pools.generic }
-    requires flexible { Funded B.means (B.state book.old) Flexible pools.flexible }
-    ensures { MatchResult result (λ _. B.state book.new ≡ month_posted B.means (B.state book.old) pools) (λ _. ⊥) }
+pub(crate) fn post_month<B: FundBook>(book: &mut B, pools: PerPool<PoolClose>)
+    requires { (p : Pool) → Funded B.means (B.state book.old) p (entry_of pools p) }
+    ensures { B.state book.new ≡ month_posted B.means (B.state book.old) pools }
 {
     make_room(book, CLOSE_POSTINGS);
-    post_pool(book, Pool::Generic, pools.generic)?;
-    post_pool(book, Pool::Flexible, pools.flexible)?;
-    Ok(())
+    for pool in Pool::ALL {
+        post_pool(book, pool, pools.get(pool));
+    }
 }
 
 // Makes room for two postings, then posts out what is released of each pool, generic first.
-pub(crate) fn post_release<B: FundBook>(book: &mut B, loads: &[LoadEntry]) -> Result<(), BookFault>
+pub(crate) fn post_release<B: FundBook>(book: &mut B, loads: &[LoadEntry])
     requires { (p : Pool) → load_told (Share p) loads.now ≤ B.means.shown (B.state book.old) p }
-    ensures { MatchResult result (λ _. B.state book.new ≡ shares_posted B.means (B.state book.old) loads.now) (λ _. ⊥) }
+    ensures { B.state book.new ≡ shares_posted B.means (B.state book.old) loads.now }
 {
     make_room(book, RELEASE_POSTINGS);
-    let generic = total(loads, LoadAmount::Share(Pool::Generic));
-    let flexible = total(loads, LoadAmount::Share(Pool::Flexible));
-    post_out(book, Pool::Generic, generic as u64)?;
-    post_out(book, Pool::Flexible, flexible as u64)?;
-    Ok(())
+    for pool in Pool::ALL {
+        // The cast loses nothing, since no more is shared out than the pool shows.
+        post_out(book, pool, total(loads, LoadAmount::Share(pool)) as u64);
+    }
 }

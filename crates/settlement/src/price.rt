@@ -1,6 +1,8 @@
 // Prices and rates, in cents for a megawatt and month, within their limits.
 ghost use Rattle.std.specs.Prelude.{◌≡◌, ◌≤◌};
 
+use pools::out_of_range::OutOfRange;
+
 const MOST_PRICE: u32 = 500_000;
 
 // What charged lines are charged.
@@ -10,20 +12,16 @@ pub struct Price {
     ghost within: { cents ≤ 500000 },
 }
 
-// A price above the limit.
-#[derive(Clone, Copy, PartialEq, Eq, Debug)]
-pub struct UnfitPrice(pub u32);
-
 impl TryFrom<u32> for Price {
     ghost use Rattle.settlement.specs.Prices.{IsPriced};
 
-    type Error = UnfitPrice;
+    type Error = OutOfRange;
 
     ghost try_from_gives = { IsPriced };
 
-    fn try_from(cents: u32) -> Result<Price, UnfitPrice> {
+    fn try_from(cents: u32) -> Result<Price, OutOfRange> {
         if cents > MOST_PRICE {
-            return Err(UnfitPrice(cents));
+            return Err(OutOfRange(cents));
         }
         Ok(Price { cents })
     }

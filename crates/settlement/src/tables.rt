@@ -53,18 +53,14 @@ impl LineEntry {
     };
 }
 
-// How many places of the line table a resource has.
-pub const LINES: usize = 2;
+// How many places of the line table a resource has: one in each pool.
+pub const LINES: usize = Pool::ALL.len();
 
 // The pool of a place of the line table: two places a resource, generic first.
 pub fn pool_at(place: usize) -> Pool
     ensures { result ≡ pool_at place }
 {
-    if place % 2 == 0 {
-        Pool::Generic
-    } else {
-        Pool::Flexible
-    }
+    Pool::ALL[place % LINES]
 }
 
 // A load in GWh, and its share of each pool's balance in cents: two fields beside another, as it is handed in.

@@ -1,7 +1,7 @@
 // A month of two resources, and a December with its release, through the public calls.
 use crate::fault::ResourceDay;
 use crate::settlement::Settlement;
-use crate::tables::{LineEntry, LoadEntry, MonthTerms, RosterEntry, SubmittedDay};
+use crate::tables::{LineEntry, LoadEntry, MonthTerms, PoolClose, RosterEntry, SubmittedDay};
 use assessment::flexible_rule::FlexibleRule;
 use assessment::generic_rule::GenericRule;
 use assessment::rule_pair::SHIPPED_RULES;
@@ -53,8 +53,8 @@ fn hundred_megawatts(economic: u32) -> DaySubmission {
 
 type Desk = Settlement<Overlay<BalanceBook>, GenericRule, FlexibleRule>;
 
-// Opens the month, records both resources on a day, and closes it: the generic charges, rate and payments.
-fn settle(desk: &mut Desk, month: &MonthTerms, day: u32) -> Option<(u64, u64, u64)> {
+// Opens the month, records both resources on a day, and closes it: what it comes to in the generic pool.
+fn settle(desk: &mut Desk, month: &MonthTerms, day: u32) -> Option<PoolClose> {
     let mut rows = [None; 62];
     let mut lines = [LineEntry::EMPTY; 4];
     desk.open(month, &ROSTER, &mut rows).ok()?;
@@ -69,11 +69,7 @@ fn settle(desk: &mut Desk, month: &MonthTerms, day: u32) -> Option<(u64, u64, u6
     };
     desk.record(&ROSTER, &mut rows, &second).ok()?;
     let pools = desk.close(&ROSTER, &rows, &mut lines).ok()?;
-    Some((
-        pools.generic.charges,
-        pools.generic.rate,
-        pools.generic.payments,
-    ))
+    Some(pools.generic)
 }
 
 #[test]
@@ -81,10 +77,14 @@ fn june_of_two_resources(rt: HostRuntime) {
     let mut desk = Settlement::start(Overlay::over(BalanceBook::new()), SHIPPED_RULES);
     assert_eq!(rt;
         settle(&mut desk, &terms(2018, 6, 0), 1),
-        Some((1_705_500, 1_137_000, 81_213))
+        Some(PoolClose {
+            charges: 1_705_500,
+            rate: 1_137_000,
+            payments: 81_213,
+        })
     );
-    assert_eq!(rt; desk.account(Pool::Generic).binding, 1_624_287);
-    assert_eq!(rt; desk.account(Pool::Flexible).binding, 0);
+    assert_eq!(rt; desk.account(Pool::Generic).balances.binding, 1_624_287);
+    assert_eq!(rt; desk.account(Pool::Flexible).balances.binding, 0);
     assert!(rt; settle(&mut desk, &terms(2018, 6, 0), 1).is_none());
 }
 
@@ -92,9 +92,9 @@ fn june_of_two_resources(rt: HostRuntime) {
 fn advisory_december_and_release(rt: HostRuntime) {
     let mut desk = Settlement::start(Overlay::over(BalanceBook::new()), SHIPPED_RULES);
     assert!(rt; settle(&mut desk, &terms(2018, 11, 0), 1).is_some());
-    let held = desk.account(Pool::Generic).binding;
+    let held = desk.account(Pool::Generic).balances.binding;
     assert!(rt; settle(&mut desk, &terms(2018, 12, 1), 3).is_some());
-    assert!(rt; held < desk.account(Pool::Generic).shown);
+    assert!(rt; held < desk.account(Pool::Generic).balances.shown);
     let mut loads = [LoadEntry {
         load: 1,
         generic: 0,
@@ -102,5 +102,5 @@ fn advisory_december_and_release(rt: HostRuntime) {
     }; 3];
     assert!(rt; desk.release(&mut loads).is_ok());
     assert_eq!(rt; loads[0].generic, held / 3);
-    assert_eq!(rt; desk.account(Pool::Generic).shown, held % 3);
+    assert_eq!(rt; desk.account(Pool::Generic).balances.shown, held % 3);
 }

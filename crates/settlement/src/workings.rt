@@ -1,12 +1,14 @@
 // A month's lines, worked out before anything is written to the caller's table.
-ghost use Rattle.std.specs.Prelude.{◌≡◌, ◌<◌, ◌≤◌, length};
+ghost use Rattle.std.specs.Prelude.{◌≡◌, ◌<◌, ◌≤◌, length, take};
 ghost use Rattle.assessment.specs.Laws.{LinesLaw};
 ghost use Rattle.assessment.specs.Lines.{lines_of};
 ghost use Rattle.assessment.specs.Pairs.{rules_of};
-ghost use Rattle.pools.specs.declared.pool.Pool.TheVariants.{Generic, Flexible};
-ghost use Rattle.settlement.specs.Closing.{charged_entry, charged_entries};
+ghost use Rattle.pools.specs.PerPool.{entry_of};
+ghost use Rattle.pools.specs.declared.pool.Pool.{Pool};
+ghost use Rattle.settlement.specs.Closing.{charged_entry, charged_entries, QuantitiesWithin};
 ghost use Rattle.settlement.specs.Tables.{category_of, places_of, DaysFit, EachRowWithin};
 
+use crate::checks::MOST_RESOURCES;
 use crate::price::{Price, Rate};
 use crate::stage::OpenMonth;
 use crate::tables::{LineEntry, RosterEntry};
@@ -15,6 +17,8 @@ use assessment::day_result::{DAY_PLACES, DayRow};
 use assessment::line::{Line, LineState, MonthLines};
 use assessment::rule::AvailabilityRule;
 use assessment::rule_pair::RulePair;
+use pools::per_pool::PerPool;
+use pools::pool::Pool;
 
 fn charged(price: Price, line: Line) -> LineEntry
     requires { line.quantity ≤ 58590000000 }
@@ -28,7 +32,7 @@ fn charged(price: Price, line: Line) -> LineEntry
 }
 
 // What a month's lines are worked out from: tables that fit, so that every resource has lines.
-#[derive(Clone, Copy)]
+#[derive(Clone, Copy, PartialEq, Eq, Debug)]
 pub(crate) struct MonthTables<'a> {
     pub month: &'a OpenMonth,
     pub roster: &'a [RosterEntry],
@@ -59,23 +63,23 @@ impl MonthTables<'_> {
             .unwrap()
     }
 
-    // Fills in each pool's lines, charged lines with their cents and eligible ones at 0.
+    // Each pool's lines, charged lines with their cents and eligible ones at 0.
     pub(crate) fn work_out<G: AvailabilityRule, F: AvailabilityRule>(
         &self,
         rules: &RulePair<G, F>,
-        generic: &mut [LineEntry],
-        flexible: &mut [LineEntry],
-    )
-        requires generic_long { length generic.old ≡ length self.now.roster.now }
-        requires flexible_long { length flexible.old ≡ length self.now.roster.now }
-        ensures generic { generic.new ≡ charged_entries (rules_of G.means F.means rules.now) self.now.month.now.settings.month self.now.month.now.price.cents self.now.roster.now self.now.rows.now Generic }
-        ensures flexible { flexible.new ≡ charged_entries (rules_of G.means F.means rules.now) self.now.month.now.settings.month self.now.month.now.price.cents self.now.roster.now self.now.rows.now Flexible }
+    ) -> PerPool<[LineEntry; MOST_RESOURCES]>
+        ensures is { (p : Pool) → take (length self.now.roster.now) (entry_of result p) ≡ charged_entries (rules_of G.means F.means rules.now) self.now.month.now.settings.month self.now.month.now.price.cents self.now.roster.now self.now.rows.now p }
+        ensures small { (p : Pool) → QuantitiesWithin (take (length self.now.roster.now) (entry_of result p)) }
     {
-        // By index, since two tables are written at once: of what is written through zipped tables nothing is known.
+        // Of a fixed size, since a close has no want of memory among its answers.
+        let mut entries = PerPool::of(|_| [LineEntry::EMPTY; MOST_RESOURCES]);
+        // By index, since a resource's lines go into both pools' tables.
         for i in 0..self.roster.len() {
             let lines = self.resource_lines(i, rules);
-            generic[i] = charged(self.month.price, lines.generic);
-            flexible[i] = charged(self.month.price, lines.flexible);
+            for pool in Pool::ALL {
+                entries.entry(pool)[i] = charged(self.month.price, lines.get(pool));
+            }
         }
+        entries
     }
 }

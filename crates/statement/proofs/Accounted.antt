@@ -1,66 +1,55 @@
 -- A settled month file is a run of the settlement, so the accountant's law holds of its statement.
-use Rattle.std.proofs.Common.{◌≡◌, ℕ, zero, suc, ◌+◌, ◌-◌, ◌*◌, ◌<◌, ◌≤◌, Bool, true, false, cond, ◌&&◌, eqb, ltb, leb, List, [], ◌∷◌, ◌++◌, length, replicate, Some, None, Ok, Err, Option, Result, sym, refl, ap, ◌∙◌, subst, arith, length-append, length-set}
+use Rattle.std.proofs.Common.{◌≡◌, ℕ, zero, suc, ◌+◌, ◌-◌, ◌*◌, ◌<◌, ◌≤◌, Bool, true, false, cond, ◌&&◌, eqb, ltb, leb, List, [], ◌∷◌, ◌++◌, length, replicate, Some, None, Ok, Err, Option, Result, sym, refl, ap, ◌∙◌, subst, arith, rules, length-append, length-set}
 use lib.ListN.{length-replicate}
-use Rattle.std.proofs.lemmas.Bool.{false≢true, ltb-true, leb-true}
+use Rattle.std.proofs.lemmas.Bool.{ltb-true, leb-true}
 use Rattle.std.proofs.lemmas.Bool.Decides.{nat_tests}
 use Rattle.assessment.specs.Figures.{DayRow}
 use Rattle.fund.specs.BalanceBook.{balance_book, no_money}
-use Rattle.fund.specs.Balances.{Balances, Within, limit, at, put}
-use Rattle.fund.specs.Meaning.{Lawful, TakesStanding, Stood, Posted, with_at}
+use Rattle.fund.specs.Balances.{Balances, Within, limit}
+use Rattle.fund.specs.BalanceBookLemmas.{balance_lawful}
+use Rattle.fund.specs.Meaning.{Lawful, TakesStanding}
 use Rattle.fund.specs.Overlay.{Overlaid, OverlaidSound, over}
 use Rattle.pools.specs.PerPool.{entry_of}
 use Rattle.fund.specs.declared.fault.BookFault.TheVariants.{OverLimit}
 use Rattle.pools.specs.declared.pool.Pool.{Pool}
 use Rattle.pools.specs.declared.pool.Pool.TheVariants.{Generic, Flexible}
 use Rattle.fund.specs.declared.standing.Standing.{Standing}
-use Rattle.fund.specs.declared.standing.Standing.TheVariants.{Binding, Advisory}
+use Rattle.fund.specs.declared.standing.Standing.TheVariants.{Binding}
 use Rattle.fund.specs.Overlaid.{overlay_lawful}
-use Rattle.settlement.proofs.Closings.{close_funded}
+use Rattle.settlement.proofs.Closings.{pools_funded}
 use Rattle.settlement.proofs.Law.{accountants_law}
-use Rattle.settlement.proofs.Steps.{close_steps, balanced}
+use Rattle.settlement.proofs.Steps.{balanced}
 use Rattle.settlement.specs.Accounts.{Settled}
-use Rattle.settlement.specs.Closing.{no_line, pool_closed, Funded}
+use Rattle.settlement.specs.Closing.{no_line}
 use Rattle.settlement.specs.Opening.{TermsWithin, standing_of}
 use Rattle.settlement.specs.Recording as recording
 use Rattle.settlement.specs.Recording.{place_of, figures_of}
-use Rattle.settlement.specs.Runs.{DayTaken, MonthClosed, Run, starts, opens, records, closes}
+use Rattle.settlement.specs.Runs.{MonthClosed, Run, starts, opens, records, closes}
 use Rattle.settlement.specs.Tables.{RosterFits, DaysFit, EachRowWithin, category_of}
 use Rattle.settlement.specs.Views.{open_at}
 use Rattle.settlement.specs.declared.fault.SettlementFault.{SettlementFault}
 use Rattle.settlement.specs.declared.fault.SettlementFault.TheVariants.{Book}
 use Rattle.settlement.specs.declared.tables.MonthTerms.{MonthTerms}
 use Rattle.settlement.specs.declared.tables.RosterEntry.{RosterEntry}
-use Rattle.statement.specs.Answers.{require, and_then}
+use Rattle.statement.specs.Answers.{and_then}
 use Rattle.statement.specs.Files.{Records, MonthPart, RosterPart, records_of, reader_fault, settlement_fault, month_part, roster_from}
-use Rattle.statement.specs.Laws.{day_taken, days_taken, month_told, StatementsKeepTheLaw}
+use Rattle.statement.specs.Laws.{days_taken, month_told, StatementsKeepTheLaw}
 use Rattle.statement.specs.Rosters.{enrolled}
 use Rattle.statement.specs.Settling.{MonthStatement, DaysPart, terms_within, is_empty, pool_book, pool_rules, open_view, open_book, no_days, recorded, days_from, fund_in, closed_lines, closed_pools, closed_book, closed_statement, closed_month, told_at, settled_from, settled_records, settled}
+use Rattle.statement.specs.declared.fault.Located.{Located}
 use Rattle.statement.specs.declared.fault.ReaderFault.{ReaderFault}
 use Rattle.statement.specs.declared.fault.ReaderFault.TheVariants.{Misplaced}
 use Rattle.statement.specs.declared.fault.StatementFault.{StatementFault}
 use Rattle.statement.specs.declared.records.FileRecord.TheVariants.{Month, Resource, Day}
 use Rattle.settlement.specs.declared.tables.SubmittedDay.{SubmittedDay}
+use Rattle.statement.proofs.Answering.{required, parts, same_ok}
 use Rattle.statement.proofs.Limits.{decides_terms, decides_between, decides_day, decides_flexible}
-use Rattle.statement.proofs.Outcomes.{not_taken}
 use Rattle.statement.proofs.Recorded.{rows_stay}
 use Rattle.statement.proofs.Wholes.{empty_within}
 
--- an answer that is taken came of taken parts
-pub required : {A E : Type 0} (b : Bool) (e : E) (r : Result A E) (x : A) → require b e r ≡ Ok x → (b ≡ true) × (r ≡ Ok x)
-required true e r x h = (refl, h)
-required false e r x h = not_taken _ _ h
-
-pub parts : {A B E : Type 0} (r : Result A E) (f : A → Result B E) (y : B) → and_then r f ≡ Ok y → (x : A) × ((r ≡ Ok x) × (f x ≡ Ok y))
-parts (Ok x) f y h = (x, (refl, h))
-parts (Err e) f y h = not_taken _ _ h
-
-pub same_ok : {A E : Type 0} (x y : A) → ◌≡◌ {A = Result A E} (Ok x) (Ok y) → x ≡ y
-same_ok x y h = cc
-
 -- a day that the definition takes is one that the settlement takes
 is_free : (x : DayRow) → is_empty x ≡ true → x ≡ None
-is_free None h = refl
-is_free (Some f) h = absurd (false≢true h)
+is_free x h = search rules
 
 pub recorded_taken : (t : MonthTerms) (roster : List RosterEntry) (rows more : List DayRow) (d : SubmittedDay) → DaysFit roster rows → recorded t roster rows d ≡ Ok more
     → recording.Records pool_rules (open_at t.month t.price) roster rows d.at d.submission (Ok (figures_of pool_rules (open_at t.month t.price) roster d.at d.submission)) more
@@ -99,39 +88,8 @@ still_fits roster more e fits h =
     let is = same_ok _ more a.1 in
     subst RosterFits is (omega (arith, length-append roster (e ∷ [])), λ i l. category_more roster e i fits.1 low)
 
--- the book of the program is lawful
-at_within : (b : Balances) → Within b → (q : Pool) → at b q ≤ limit
-at_within b w Generic = w.generic
-at_within b w Flexible = w.flexible
-
-put_at : (b : Balances) (p : Pool) (n : ℕ) (q : Pool) → at (put b p n) q ≡ with_at (at b) p n q
-put_at b Generic n Generic = refl
-put_at b Generic n Flexible = refl
-put_at b Flexible n Generic = refl
-put_at b Flexible n Flexible = refl
-
-put_within : (b : Balances) (p : Pool) (n : ℕ) → Within b → n ≤ limit → Within (put b p n)
-put_within b Generic n w h = record { generic = h; flexible = w.flexible }
-put_within b Flexible n w h = record { generic = w.generic; flexible = h }
-
-stood_same : (s : Balances) (d : Standing) → Within s → TakesStanding balance_book s d → Within s × Stood balance_book s s d
-stood_same s Binding w h = (w, record { shown = λ q. refl; binding = λ q. refl; standing = refl; size = refl; takes_advisory = refl })
-stood_same s Advisory w h = absurd (false≢true h)
-
-posted_to : (s : Balances) (p : Pool) (n : ℕ) → Within s → n ≤ limit → Within (put s p n) × Posted balance_book s (put s p n) p n
-posted_to s p n w h = (put_within s p n w h, record { shown = put_at s p n; binding = put_at s p n; standing = refl; size = refl; takes_advisory = refl; free = omega arith })
-
-balance_lawful : Lawful balance_book Within
-balance_lawful = record {
-  holds = λ s w. record { sized = omega arith; shown = at_within s w; binding = at_within s w; agrees = λ e q. refl };
-  stood = stood_same;
-  posted_in = λ s p a w h. posted_to s p (at s p + a) w h.room;
-  posted_out = λ s p a w h. posted_to s p (at s p - a) w (omega (arith, at_within s w p));
-  ruled_off = λ s w. (w, record { unmoved = record { shown = λ q. refl; binding = λ q. refl; standing = refl; size = refl; takes_advisory = refl }; free = omega arith });
-}
-
 -- an open month with these days taken, as a run
-abbrev MonthRuns : MonthTerms → List RosterEntry → List DayTaken → List DayRow → Type 0
+abbrev MonthRuns : MonthTerms → List RosterEntry → List SubmittedDay → List DayRow → Type 0
 MonthRuns t roster ds rows = Run pool_book (OverlaidSound Within) pool_rules (record {
   opening = pool_book.binding (over balance_book no_money);
   past = [];
@@ -139,14 +97,10 @@ MonthRuns t roster ds rows = Run pool_book (OverlaidSound Within) pool_rules (re
 }) (open_view t)
 
 takes_standing : (s : Overlaid Balances) (d : Standing) → TakesStanding pool_book s d
-takes_standing s Binding = tt
-takes_standing s Advisory = refl
+takes_standing s d = search rules
 
 shows_none : (d : Standing) (p : Pool) → pool_book.shown (pool_book.stood (over balance_book no_money) d) p ≡ 0
-shows_none Binding Generic = refl
-shows_none Binding Flexible = refl
-shows_none Advisory Generic = refl
-shows_none Advisory Flexible = refl
+shows_none d p = search rules
 
 opened_runs : (t : MonthTerms) (roster : List RosterEntry) → RosterFits roster → TermsWithin t → MonthRuns t roster [] (no_days roster)
 unfolding open_view
@@ -160,40 +114,40 @@ opened_runs t roster fits within =
     )
 
 -- the day table fits and is within its limits, and the days so far are a run
-pub record Held (t : MonthTerms) (roster : List RosterEntry) (ds : List DayTaken) (rows : List DayRow) : Type 0 where
+pub record Held (t : MonthTerms) (roster : List RosterEntry) (ds : List SubmittedDay) (rows : List DayRow) : Type 0 where
   pub fit : DaysFit roster rows
   pub within : EachRowWithin rows
   pub run : MonthRuns t roster ds rows
 
-one_day : (t : MonthTerms) (roster : List RosterEntry) (ds : List DayTaken) (rows more : List DayRow) (d : SubmittedDay) → recorded t roster rows d ≡ Ok more → Held t roster ds rows → Held t roster (day_taken d ∷ ds) more
+one_day : (t : MonthTerms) (roster : List RosterEntry) (ds : List SubmittedDay) (rows more : List DayRow) (d : SubmittedDay) → recorded t roster rows d ≡ Ok more → Held t roster ds rows → Held t roster (d ∷ ds) more
 unfolding open_view
 one_day t roster ds rows more d h k =
     let taken = recorded_taken t roster rows more d k.fit h in
     record {
       fit = (k.fit.0, ap length taken.2 ∙ length-set rows (place_of d.at) _ ∙ k.fit.1);
       within = rows_stay t roster rows more d (Ok (figures_of pool_rules (open_at t.month t.price) roster d.at d.submission)) taken k.within;
-      run = records roster rows more (day_taken d) (Ok (figures_of pool_rules (open_at t.month t.price) roster d.at d.submission)) k.run (refl, refl) taken;
+      run = records roster rows more d (Ok (figures_of pool_rules (open_at t.month t.price) roster d.at d.submission)) k.run (refl, refl) taken;
     }
 
+-- a day, and the days after it
+module _ (t : MonthTerms) (roster : List RosterEntry) (at : ℕ) (rs : Records) where
+  abbrev pub after_day : Result (List DayRow) SettlementFault → Result DaysPart (Located StatementFault)
+  after_day a = elim a [ Ok more ↦ days_from t roster more (at + 412) rs | Err f ↦ Err (settlement_fault f at) ]
+
+  pub day_first : (days : DaysPart) (a : Result (List DayRow) SettlementFault) → after_day a ≡ Ok days → (more : List DayRow) × ((a ≡ Ok more) × (days_from t roster more (at + 412) rs ≡ Ok days))
+  day_first days (Ok more) h = (more, (refl, h))
+  day_first days (Err f) h = cc
+
 -- the days that are left go on with the run
-module _ (t : MonthTerms) (roster : List RosterEntry) (rs : Records) (at : ℕ) (days : DaysPart) where
-  abbrev GoesOn : List DayTaken → List DayRow → Type 0
-  GoesOn ds rows = Held t roster ds rows → days_from t roster rows at rs ≡ Ok days → Held t roster (days_taken ds rs) days.rows
-
-  after_day : (ds : List DayTaken) (rows : List DayRow) (d : SubmittedDay) (from : ℕ) (a : Result (List DayRow) SettlementFault) → ((more : List DayRow) → GoesOn (day_taken d ∷ ds) more)
-      → recorded t roster rows d ≡ a → Held t roster ds rows
-      → ◌≡◌ {A = Result DaysPart StatementFault} (elim a [ Ok more ↦ days_from t roster more at rs | Err f ↦ Err (settlement_fault f from) ]) (Ok days) → Held t roster (days_taken (day_taken d ∷ ds) rs) days.rows
-  after_day ds rows d from (Ok more) go is k h = go more (one_day t roster ds rows more d is k) h
-  after_day ds rows d from (Err f) go is k h = not_taken _ _ h
-
-days_run : (t : MonthTerms) (roster : List RosterEntry) (rs : Records) (at : ℕ) (days : DaysPart) (ds : List DayTaken) (rows : List DayRow) → GoesOn t roster rs at days ds rows
+days_run : (t : MonthTerms) (roster : List RosterEntry) (rs : Records) (at : ℕ) (days : DaysPart) (ds : List SubmittedDay) (rows : List DayRow) → Held t roster ds rows → days_from t roster rows at rs ≡ Ok days → Held t roster (days_taken ds rs) days.rows
 unfolding days_from days_taken
 days_run t roster [] at days ds rows k h = subst (λ (x : DaysPart). Held t roster ds x.rows) (same_ok _ days h) k
-days_run t roster (Err f ∷ rs) at days ds rows k h = not_taken _ _ h
-days_run t roster (Ok (Month m) ∷ rs) at days ds rows k h = not_taken _ _ h
-days_run t roster (Ok (Resource x) ∷ rs) at days ds rows k h = not_taken _ _ h
+days_run t roster (Err f ∷ rs) at days ds rows k h = cc
+days_run t roster (Ok (Month m) ∷ rs) at days ds rows k h = cc
+days_run t roster (Ok (Resource x) ∷ rs) at days ds rows k h = cc
 days_run t roster (Ok (Day d) ∷ rs) at days ds rows k h =
-    after_day t roster rs (at + 412) days ds rows d at (recorded t roster rows d) (λ more. days_run t roster rs (at + 412) days (day_taken d ∷ ds) more) refl k h
+    let a = day_first t roster at rs days (recorded t roster rows d) h in
+    days_run t roster rs (at + 412) days (d ∷ ds) a.0 (one_day t roster ds rows a.0 d a.1.0 k) a.1.1
 
 no_fund : (t : MonthTerms) (p : Pool) → pool_book.shown (open_book t) p ≡ 0
 unfolding open_view
@@ -210,7 +164,7 @@ open_sound t =
     (pool_lawful.stood (pool_book.stood (over balance_book no_money) Binding) (standing_of t.standing) stood (takes_standing (pool_book.stood (over balance_book no_money) Binding) (standing_of t.standing))).0
 
 -- the close ends the run, and the law holds of the month that it closed
-module _ (t : MonthTerms) (roster : List RosterEntry) (ds : List DayTaken) (rows : List DayRow) where
+module _ (t : MonthTerms) (roster : List RosterEntry) (ds : List SubmittedDay) (rows : List DayRow) where
   abbrev told : MonthStatement → MonthClosed
   told s = record { month = record { terms = t; roster = roster; records = ds }; before = pool_book.shown (open_book t); pools = s.pools; lines = s.lines }
 
@@ -235,16 +189,13 @@ module _ (t : MonthTerms) (roster : List RosterEntry) (ds : List DayTaken) (rows
       subst (λ (x : MonthStatement). Settled pool_rules (told x) p) c.2 (closed_law k c.0 c.1 p)
 
   entry_shown : (p : Pool) → entry_of (closed_statement t roster rows).shown p ≡ pool_book.shown (closed_book t roster rows) p
-  entry_shown Generic = refl
-  entry_shown Flexible = refl
+  entry_shown p = search rules
 
   month_balance : (s : MonthStatement) → closed_month t roster rows ≡ Ok s → (p : Pool) → entry_of s.shown p ≡ (entry_of s.pools p).charges - (entry_of s.pools p).payments
   month_balance s h p =
       let c = closed_parts s h in
-      let funded : (q : Pool) → fund_in t roster rows q ≤ limit → Funded pool_book (open_book t) q (pool_closed pool_book pool_rules (open_book t) t.month t.price roster rows q) =
-      λ q w. close_funded pool_book pool_rules (open_book t) t.month t.price roster rows q _ w refl in
-      let steps = close_steps pool_book (OverlaidSound Within) pool_lawful (open_book t) (closed_pools t roster rows) (open_sound t) (funded Generic c.0) (funded Flexible c.1) in
-      let after = (balanced pool_book (OverlaidSound Within) pool_lawful (open_book t) (closed_pools t roster rows) (open_sound t) steps).shown p in
+      let funded = pools_funded pool_book pool_rules (open_book t) t.month t.price roster rows (closed_pools t roster rows) c.0 c.1 refl in
+      let after = (balanced pool_book (OverlaidSound Within) pool_lawful (open_book t) (closed_pools t roster rows) (open_sound t) funded).shown p in
       let is : entry_of (closed_statement t roster rows).shown p ≡ (entry_of (closed_pools t roster rows) p).charges - (entry_of (closed_pools t roster rows) p).payments =
       omega (arith, entry_shown p, after, no_fund t p) in
       subst (λ (x : MonthStatement). entry_of x.shown p ≡ (entry_of x.pools p).charges - (entry_of x.pools p).payments) c.2 is
@@ -254,7 +205,7 @@ module _ (t : MonthTerms) (roster : List RosterEntry) (ds : List DayTaken) (rows
 
 pub told_ok : {A : Type 0} (at : ℕ) (r : Result A SettlementFault) (x : A) → told_at at r ≡ Ok x → r ≡ Ok x
 told_ok at (Ok y) x h = let e = same_ok y x h in ap Ok e
-told_ok at (Err f) x h = not_taken _ _ h
+told_ok at (Err f) x h = cc
 
 -- from the terms and the resources of a file
 from_part : (t : MonthTerms) (part : RosterPart) (s : MonthStatement) → RosterFits part.roster → settled_from t part ≡ Ok s → ((p : Pool) → Settled pool_rules (month_told s part) p) × ((p : Pool) → entry_of s.shown p ≡ (entry_of s.pools p).charges - (entry_of s.pools p).payments)
@@ -273,38 +224,38 @@ from_part t part s fits h =
     let e = month_terms t part.roster (days_taken [] part.rest) b.0.rows s closed in
     (λ p. subst (λ (x : MonthTerms). Settled pool_rules (told x part.roster (days_taken [] part.rest) b.0.rows s) p) e (month_law t part.roster (days_taken [] part.rest) b.0.rows s k closed p), month_balance t part.roster (days_taken [] part.rest) b.0.rows s closed)
 
+-- a resource, and the records after it
+abbrev pub numbered : Bool → RosterEntry → Result (Option RosterEntry) ReaderFault
+numbered b e = cond b (Ok (Some e)) (Err Misplaced)
+
+abbrev pub entered : ℕ → Records → Result (List RosterEntry) SettlementFault → Result RosterPart (Located StatementFault)
+entered at rs a = elim a [ Ok more ↦ roster_from more (at + 16) rs | Err f ↦ Err (settlement_fault f at) ]
+
+abbrev pub listing : List RosterEntry → ℕ → Records → Records → Result (Option RosterEntry) ReaderFault → Result RosterPart (Located StatementFault)
+listing roster at whole rs a = elim a [
+  | Ok o ↦ elim o [ Some e ↦ entered at rs (enrolled roster e) | None ↦ Ok (record { roster = roster; offset = at; rest = whole }) ]
+  | Err f ↦ Err (reader_fault f at)
+]
+
+entered_first : (at : ℕ) (rs : Records) (part : RosterPart) (a : Result (List RosterEntry) SettlementFault) → entered at rs a ≡ Ok part → (more : List RosterEntry) × ((a ≡ Ok more) × (roster_from more (at + 16) rs ≡ Ok part))
+entered_first at rs part (Ok more) h = (more, (refl, h))
+entered_first at rs part (Err f) h = cc
+
+pub listed_first : (roster : List RosterEntry) (at : ℕ) (whole rs : Records) (part : RosterPart) (e : RosterEntry) (b : Bool) → listing roster at whole rs (numbered b e) ≡ Ok part
+    → (b ≡ true) × ((more : List RosterEntry) × ((enrolled roster e ≡ Ok more) × (roster_from more (at + 16) rs ≡ Ok part)))
+listed_first roster at whole rs part e true h = (refl, entered_first at rs part (enrolled roster e) h)
+listed_first roster at whole rs part e false h = cc
+
 -- the resources of a file fit the settlement
-abbrev as_numbered : Bool → RosterEntry → Result (Option RosterEntry) ReaderFault
-as_numbered b e = cond b (Ok (Some e)) (Err Misplaced)
-
-module _ (at : ℕ) (rs : Records) (part : RosterPart) where
-  abbrev Listed : List RosterEntry → Type 0
-  Listed roster = RosterFits roster → roster_from roster at rs ≡ Ok part → RosterFits part.roster
-
-  after_entry : (roster : List RosterEntry) (e : RosterEntry) (from : ℕ) (a : Result (List RosterEntry) SettlementFault) → ((more : List RosterEntry) → Listed more) → enrolled roster e ≡ a → RosterFits roster
-      → ◌≡◌ {A = Result RosterPart StatementFault} (elim a [ Ok more ↦ roster_from more at rs | Err f ↦ Err (settlement_fault f from) ]) (Ok part) → RosterFits part.roster
-  after_entry roster e from (Ok more) go is fits h = go more (still_fits roster more e fits is) h
-  after_entry roster e from (Err f) go is fits h = not_taken _ _ h
-
-  after_number : (roster : List RosterEntry) (e : RosterEntry) (from : ℕ) (whole : Records) (b : Bool) → ((more : List RosterEntry) → Listed more) → RosterFits roster
-      → ◌≡◌ {A = Result RosterPart StatementFault} (elim (as_numbered b e) [
-        | Ok o ↦ elim o [
-          | Some x ↦ elim (enrolled roster x) [ Ok more ↦ roster_from more at rs | Err f ↦ Err (settlement_fault f from) ]
-          | None ↦ Ok (record { roster = roster; offset = from; rest = whole })
-        ]
-        | Err f ↦ Err (reader_fault f from)
-      ]) (Ok part) → RosterFits part.roster
-  after_number roster e from whole true go fits h = after_entry roster e from (enrolled roster e) go refl fits h
-  after_number roster e from whole false go fits h = not_taken _ _ h
-
-pub listed_fits : (at : ℕ) (rs : Records) (part : RosterPart) (roster : List RosterEntry) → Listed at rs part roster
+pub listed_fits : (at : ℕ) (rs : Records) (part : RosterPart) (roster : List RosterEntry) → RosterFits roster → roster_from roster at rs ≡ Ok part → RosterFits part.roster
 unfolding roster_from
 listed_fits at [] part roster fits h = subst (λ (x : RosterPart). RosterFits x.roster) (same_ok _ part h) fits
-listed_fits at (Err f ∷ rs) part roster fits h = not_taken _ _ h
-listed_fits at (Ok (Month m) ∷ rs) part roster fits h = not_taken _ _ h
+listed_fits at (Err f ∷ rs) part roster fits h = cc
+listed_fits at (Ok (Month m) ∷ rs) part roster fits h = cc
 listed_fits at (Ok (Day d) ∷ rs) part roster fits h = subst (λ (x : RosterPart). RosterFits x.roster) (same_ok _ part h) fits
 listed_fits at (Ok (Resource x) ∷ rs) part roster fits h =
-    after_number (at + 16) rs part roster x.entry at (Ok (Resource x) ∷ rs) (eqb x.number (length roster)) (λ more. listed_fits (at + 16) rs part more) fits h
+    let a = listed_first roster at (Ok (Resource x) ∷ rs) rs part x.entry (eqb x.number (length roster)) h in
+    listed_fits (at + 16) rs part a.1.0 (still_fits roster a.1.0 x.entry fits a.1.1.0) a.1.1.1
 
 pub statements_keep_the_law : StatementsKeepTheLaw
 unfolding settled settled_records
@@ -315,7 +266,7 @@ statements_keep_the_law bs s h =
     let c = from_part a.0.terms b.0 s fits b.1.1 in
     record {
       part = b.0;
-      read = ap (λ (r : Result MonthPart StatementFault). and_then r (λ m. roster_from [] 36 m.rest)) a.1.0 ∙ b.1.0;
+      read = ap (λ (r : Result MonthPart (Located StatementFault)). and_then r (λ m. roster_from [] 36 m.rest)) a.1.0 ∙ b.1.0;
       law = c.0;
       no_fund = no_fund s.terms;
       balance = c.1;

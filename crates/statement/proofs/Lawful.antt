@@ -1,21 +1,17 @@
 -- The laws of a month file's output.
-use Rattle.std.proofs.Common.{◌≡◌, ℕ, zero, suc, ◌+◌, ◌/◌, ◌%◌, false, eqb, ltb, List, [], ◌∷◌, ◌++◌, Ok, Err, codes, decimal, Result, refl, ap, arith}
+use Rattle.std.proofs.Common.{◌≡◌, ℕ, zero, suc, ◌+◌, ◌/◌, ◌%◌, false, eqb, ltb, List, [], ◌∷◌, ◌++◌, Ok, Err, codes, decimal, Result, refl, ap, arith, rules}
 use Rattle.std.specs.Fmt.{digit_glyph, digits_onto, digits}
 use Rattle.std.specs.List.{AllByRecursion}
 use Rattle.std.proofs.ByRecursion.{All-append}
 use Rattle.std.proofs.lemmas.Bool.{cond_both, true≢false}
-use Rattle.fund.specs.declared.fault.BookFault.TheVariants.{UnfitPlaces, NoFreePlace, OverLimit, AboveBalance, NoAdvisoryMonths}
-use Rattle.settlement.specs.declared.fault.SettlementFault.{SettlementFault}
-use Rattle.settlement.specs.declared.fault.SettlementFault.TheVariants.{UnfitTables, OutOfTurn, UnfitTerms, NotNextMonth, UnfitLoads, UnknownResource, NoSuchDay, AlreadyRecorded, DayOverLimit, FlexibleInCategory0, Book}
-use Rattle.settlement.specs.Faults as settlement
 use Rattle.statement.specs.Faults.{label}
 use Rattle.statement.specs.Files.{records_of}
 use Rattle.statement.specs.Laws.{OneLine, RefusedInOneLine}
 use Rattle.statement.specs.Printing.{printed, is_taken, output, is_settled}
 use Rattle.statement.specs.Rows.{refusal_row}
 use Rattle.statement.specs.Settling.{MonthStatement, settled_records, settled}
+use Rattle.statement.specs.declared.fault.Located.{Located}
 use Rattle.statement.specs.declared.fault.StatementFault.{StatementFault}
-use Rattle.statement.specs.declared.fault.StatementFault.TheVariants.{Reader, Settlement}
 
 abbrev NoFeed : ℕ → Type 0
 NoFeed b = b ≡ 10 → ⊥
@@ -34,37 +30,19 @@ decimal_unbroken : (n : ℕ) → AllByRecursion NoFeed (decimal n)
 unfolding digits
 decimal_unbroken n = spelled_unbroken 64 n [] tt
 
-settlement_letter : (f : SettlementFault) → NoFeed (settlement.label f).layer
-settlement_letter UnfitTables e = omega arith
-settlement_letter OutOfTurn e = omega arith
-settlement_letter UnfitTerms e = omega arith
-settlement_letter NotNextMonth e = omega arith
-settlement_letter UnfitLoads e = omega arith
-settlement_letter (UnknownResource d) e = omega arith
-settlement_letter (NoSuchDay d) e = omega arith
-settlement_letter (AlreadyRecorded d) e = omega arith
-settlement_letter (DayOverLimit d) e = omega arith
-settlement_letter (FlexibleInCategory0 d) e = omega arith
-settlement_letter (Book UnfitPlaces) e = omega arith
-settlement_letter (Book (NoFreePlace p)) e = omega arith
-settlement_letter (Book (OverLimit p)) e = omega arith
-settlement_letter (Book (AboveBalance p)) e = omega arith
-settlement_letter (Book NoAdvisoryMonths) e = omega arith
-
-letter_unbroken : (f : StatementFault) → NoFeed (label f).layer
-letter_unbroken (Reader x) e = omega arith
-letter_unbroken (Settlement x) e = settlement_letter x.fault e
+letter_unbroken : (f : StatementFault) (at : ℕ) → NoFeed (label (record { fault = f; offset = at })).layer
+letter_unbroken f at = search rules
 
 space : AllByRecursion NoFeed (codes " ")
-space = ((λ e. omega arith), tt)
+space = search rules
 
 word : AllByRecursion NoFeed (codes "REFUSED ")
-word = ((λ e. omega arith), ((λ e. omega arith), ((λ e. omega arith), ((λ e. omega arith), ((λ e. omega arith), ((λ e. omega arith), ((λ e. omega arith), ((λ e. omega arith), tt))))))))
+word = search rules
 
-letter : (f : StatementFault) → AllByRecursion NoFeed ((label f).layer ∷ [])
-letter f = (letter_unbroken f, tt)
+letter : (f : Located StatementFault) → AllByRecursion NoFeed ((label f).layer ∷ [])
+letter f = (letter_unbroken f.fault f.offset, tt)
 
-refusal_line : (f : StatementFault) → OneLine (refusal_row f)
+refusal_line : (f : Located StatementFault) → OneLine (refusal_row f)
 refusal_line f =
     let a = decimal (label f).number in
     let b = decimal (label f).place in
@@ -80,7 +58,7 @@ refusal_line f =
           (All-append NoFeed (codes "REFUSED ") a word (decimal_unbroken (label f).number)) space) (letter f)) space) (decimal_unbroken (label f).place);
     }
 
-line_of : (r : Result MonthStatement StatementFault) → is_taken r ≡ false → OneLine (printed r)
+line_of : (r : Result MonthStatement (Located StatementFault)) → is_taken r ≡ false → OneLine (printed r)
 line_of (Ok s) h = absurd (true≢false h)
 line_of (Err f) h = refusal_line f
 

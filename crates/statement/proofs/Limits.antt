@@ -1,5 +1,5 @@
 -- The tests of a month's terms and of a day decide the limits that the settlement states.
-use Rattle.std.proofs.Common.{◌≡◌, ℕ, ◌/◌, ◌^◌, ◌≤◌, Bool, true, false, leb, Decides, refl, arith}
+use Rattle.std.proofs.Common.{◌≡◌, ℕ, ◌/◌, ◌^◌, ◌≤◌, Bool, false, leb, Decides, refl, rules}
 use Rattle.std.proofs.lemmas.Bool.{leb-true, le-leb}
 use Rattle.std.proofs.lemmas.Bool.Decides.{Decides-eqb, Decides-and, Decides-like, Decides-below_and, nat_tests}
 use Rattle.assessment.specs.Calendar.{days_of, DateWithin, WindowsWithin}
@@ -15,24 +15,19 @@ use Rattle.statement.specs.Settling.{between, date_within, windows_within, terms
 
 -- a test is false where what it decides is refuted
 pub refuted : {P : Type 0} (b : Bool) → Decides b P → (P → ⊥) → b ≡ false
-refuted true d n = absurd (n (d.0 refl))
-refuted false d n = refl
+refuted b d n = search rules
 
 decides_leb : (a b : ℕ) → Decides (leb a b) (a ≤ b)
 decides_leb a b = (leb-true a b, le-leb a b)
 
 pub decides_between : (low high n : ℕ) → Decides (between low high n) ((low ≤ n) × (n ≤ high))
-decides_between low high n = Decides-and (leb low n) (leb n high) (decides_leb low n) (decides_leb n high)
+decides_between low high n = search (rules, nat_tests)
 
 decides_date : (m : TradeMonth) → Decides (date_within m) (DateWithin m)
-decides_date m =
-    Decides-like (date_within m) (λ x. (x.0.0, x.0.1, x.1.0, x.1.1)) (λ x. ((x.0, x.1), (x.2, x.3)))
-    (Decides-and (between 2018 2099 m.year) (between 1 12 m.month) (decides_between 2018 2099 m.year) (decides_between 1 12 m.month))
+decides_date m = search (rules, nat_tests)
 
 decides_windows : (m : TradeMonth) → Decides (windows_within m) (WindowsWithin m)
-decides_windows m =
-    Decides-like (windows_within m) (λ x. (x.0, x.1.0, x.1.1)) (λ x. (x.0, (x.1, x.2)))
-    (Decides-and _ _ (decides_between 1 20 m.generic_start) (Decides-and _ _ (decides_between 1 20 m.category2_start) (decides_between 1 20 m.category3_start)))
+decides_windows m = search (rules, nat_tests)
 
 pub decides_terms : (t : MonthTerms) → Decides (terms_within t) (TermsWithin t)
 unfolding terms_within
@@ -44,14 +39,11 @@ decides_terms t =
     (Decides-and _ _ (decides_leb t.price 500000) (decides_leb t.standing 1)))))
 
 decides_showing : (s : Showing) → Decides (showing_within s) ((s.shown ≤ 2000000) × ((s.exempt ≤ 2000000) × (s.exempt ≤ s.shown)))
-decides_showing s = Decides-and _ _ (decides_leb s.shown 2000000) (Decides-and _ _ (decides_leb s.exempt 2000000) (decides_leb s.exempt s.shown))
+decides_showing s = search (rules, nat_tests)
 
 decides_hour : (b : HourBids) → Decides (hour_within b) (HourWithin b)
 unfolding hour_within
-decides_hour b =
-    Decides-like _ (λ x. (x.0, x.1.0, x.1.1.0, x.1.1.1)) (λ x. (x.0, (x.1, (x.2, x.3))))
-    (Decides-and _ _ (decides_leb b.day_ahead.economic 2000000) (Decides-and _ _ (decides_leb b.day_ahead.self_scheduled 2000000)
-    (Decides-and _ _ (decides_leb b.real_time.economic 2000000) (decides_leb b.real_time.self_scheduled 2000000))))
+decides_hour b = search (rules, nat_tests)
 
 decides_hours : (d : DaySubmission) → Decides (hours_within d 24) (BidsWithin d)
 unfolding hours_within
@@ -68,5 +60,4 @@ decides_day d =
 
 pub decides_flexible : (category : ℕ) (d : DaySubmission) → Decides (flexible_allowed category d) (FlexibleAllowed category d)
 unfolding flexible_allowed
-decides_flexible category d =
-    (λ h z. grind (arith, nat_tests), λ h. grind (arith, nat_tests))
+decides_flexible category d = search (rules, nat_tests)

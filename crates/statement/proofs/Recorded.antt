@@ -1,5 +1,5 @@
 -- A settlement's record of a day is the definition's, and keeps every row within its limits.
-use Rattle.std.proofs.Common.{◌≡◌, ℕ, Bool, true, false, List, length, set, Ok, Err, Result, sym, refl, ap, ◌∙◌, subst, inl, inr, arith, length-set, None, Some}
+use Rattle.std.proofs.Common.{◌≡◌, ℕ, false, List, length, set, Ok, Err, Result, sym, ap, ◌∙◌, subst, inl, inr, arith, rules, length-set, None, Some}
 use native.Mathlib.Nat.{min-le_left, min-le_right}
 use Rattle.std.proofs.lemmas.List.{get_or-set_same, get_or-set_other}
 use Rattle.std.proofs.lemmas.Bool.{lt-ltb, le-ltb, cases_eq}
@@ -14,23 +14,17 @@ use Rattle.settlement.specs.Tables.{DaysFit, EachRowWithin}
 use Rattle.settlement.specs.Views.{open_at}
 use Rattle.settlement.specs.declared.fault.ResourceDay.{ResourceDay}
 use Rattle.settlement.specs.declared.fault.SettlementFault.{SettlementFault}
-use Rattle.settlement.specs.declared.fault.SettlementFault.TheVariants.{UnfitTables, OutOfTurn, UnfitTerms, NotNextMonth, UnfitLoads, UnknownResource, NoSuchDay, AlreadyRecorded, DayOverLimit, FlexibleInCategory0, Book}
+use Rattle.settlement.specs.declared.fault.SettlementFault.TheVariants.{UnknownResource, NoSuchDay, AlreadyRecorded, DayOverLimit, FlexibleInCategory0}
 use Rattle.settlement.specs.declared.tables.MonthTerms.{MonthTerms}
 use Rattle.settlement.specs.declared.tables.RosterEntry.{RosterEntry}
-use Rattle.statement.specs.Answers.{require, Leaves}
+use Rattle.statement.specs.Answers.{Leaves}
 use Rattle.statement.specs.Settling.{is_empty, pool_rules, recorded}
 use Rattle.settlement.specs.declared.tables.SubmittedDay.{SubmittedDay}
+use Rattle.statement.proofs.Answering.{met, unmet}
 use Rattle.statement.proofs.Limits.{refuted, decides_between, decides_day, decides_flexible}
 
-pub met : {A E : Type 0} (b : Bool) (e : E) (r : Result A E) → b ≡ true → require b e r ≡ r
-met b e r h = rw h
-
-pub unmet : {A E : Type 0} (b : Bool) (e : E) (r : Result A E) → b ≡ false → require b e r ≡ Err e
-unmet b e r h = rw h
-
 not_empty : (x : DayRow) → (x ≡ None → ⊥) → is_empty x ≡ false
-not_empty None n = absurd (n refl)
-not_empty (Some f) n = refl
+not_empty x n = search rules
 
 pub recorded_is : (t : MonthTerms) (roster : List RosterEntry) (rows rows' : List DayRow) (d : SubmittedDay) (a : Result DayFigures SettlementFault)
     → DaysFit roster rows → recording.Records pool_rules (open_at t.month t.price) roster rows d.at d.submission a rows' → Leaves a rows' (recorded t roster rows d)
@@ -42,11 +36,6 @@ recorded_is t roster rows rows' d (Ok f) fit h =
     ∙ met _ _ _ ((decides_day d.submission).1 h.0.within)
     ∙ met _ _ _ ((decides_flexible _ d.submission).1 h.0.allowed)
     ∙ ap Ok (ap (λ (x : DayFigures). set rows (place_of d.at) (Some x)) (sym h.1) ∙ sym h.2)
-recorded_is t roster rows rows' d (Err UnfitTables) fit h = absurd (h.0 fit)
-recorded_is t roster rows rows' d (Err OutOfTurn) fit h = absurd (h.0.1 tt)
-recorded_is t roster rows rows' d (Err UnfitTerms) fit h = absurd h.0
-recorded_is t roster rows rows' d (Err NotNextMonth) fit h = absurd h.0
-recorded_is t roster rows rows' d (Err UnfitLoads) fit h = absurd h.0
 recorded_is t roster rows rows' d (Err (UnknownResource x)) fit h =
     unmet _ _ _ (le-ltb d.at.resource (length roster) (omega (arith, h.0.3)))
     ∙ ap (λ (y : ResourceDay). Err (UnknownResource y)) (sym h.0.0)
@@ -72,7 +61,7 @@ recorded_is t roster rows rows' d (Err (FlexibleInCategory0 x)) fit h =
     ∙ met _ _ _ ((decides_day d.submission).1 h.0.6)
     ∙ unmet _ _ _ (refuted _ (decides_flexible _ d.submission) h.0.7)
     ∙ ap (λ (y : ResourceDay). Err (FlexibleInCategory0 y)) (sym h.0.0)
-recorded_is t roster rows rows' d (Err (Book e)) fit h = absurd h.0
+recorded_is t roster rows rows' d (Err e) fit h = search rules
 
 -- the rules that ship keep what every rule owes
 rules_owed : RulesOwed pool_rules

@@ -1,5 +1,5 @@
 -- Days come in any order.
-use Rattle.std.proofs.Common.{◌≡◌, ℕ, ◌+◌, ◌*◌, ◌<◌, Bool, true, false, cond, eqb, ◌≢◌, List, [], ◌∷◌, ◌++◌, length, get_or, set, Some, None, Ok, Err, Option, Result, sym, refl, ap, ◌∙◌, subst, arith, length-set}
+use Rattle.std.proofs.Common.{◌≡◌, ℕ, ◌+◌, ◌*◌, ◌<◌, Bool, eqb, ◌≢◌, List, [], ◌∷◌, ◌++◌, length, get_or, set, Some, None, Ok, Err, Result, sym, refl, ap, ◌∙◌, subst, arith, length-set}
 use lib.ListN.{length-replicate}
 use Rattle.std.proofs.lemmas.List.{get_or-set_same, get_or-set_other, set_comm}
 use Rattle.assessment.proofs.LineLaws.{days_few}
@@ -7,21 +7,18 @@ use Rattle.assessment.specs.Figures.{DayRow}
 use Rattle.settlement.specs.Recording.{place_of, figures_of, MayTakeDay}
 use Rattle.settlement.specs.Tables.{DaysFit, RosterFits}
 use Rattle.settlement.specs.Views.{open_at}
-use Rattle.settlement.specs.declared.fault.SettlementFault.{SettlementFault}
 use Rattle.settlement.specs.declared.tables.MonthTerms.{MonthTerms}
 use Rattle.settlement.specs.declared.tables.RosterEntry.{RosterEntry}
 use Rattle.statement.specs.Answers.{and_then}
-use Rattle.statement.specs.Files.{Records, RosterPart, settlement_fault, reader_fault, roster_from}
+use Rattle.statement.specs.Files.{Records, RosterPart, roster_from}
 use Rattle.statement.specs.Laws.{DaysInAnyOrder}
-use Rattle.statement.specs.Rosters.{enrolled}
 use Rattle.statement.specs.Settling.{MonthStatement, DaysPart, pool_rules, recorded, days_from, no_days, closed_month, opens, told_at, settled_from, settled_records}
-use Rattle.statement.specs.declared.fault.ReaderFault.{ReaderFault}
-use Rattle.statement.specs.declared.fault.ReaderFault.TheVariants.{Misplaced}
+use Rattle.statement.specs.declared.fault.Located.{Located}
 use Rattle.statement.specs.declared.fault.StatementFault.{StatementFault}
 use Rattle.statement.specs.declared.records.FileRecord.TheVariants.{Month, Resource, Day}
 use Rattle.settlement.specs.declared.tables.SubmittedDay.{SubmittedDay}
-use Rattle.statement.proofs.Accounted.{parts, same_ok, recorded_taken, listed_fits}
-use Rattle.statement.proofs.Outcomes.{not_taken}
+use Rattle.statement.proofs.Answering.{parts, same_ok}
+use Rattle.statement.proofs.Accounted.{recorded_taken, after_day, day_first, numbered, entered, listing, listed_first, listed_fits}
 use Rattle.statement.proofs.Recorded.{recorded_is}
 
 module _ (t : MonthTerms) (roster : List RosterEntry) where
@@ -76,22 +73,15 @@ module _ (t : MonthTerms) (roster : List RosterEntry) where
       )
 
   -- the days from one on
-  abbrev after : ℕ → Records → Result (List DayRow) SettlementFault → Result DaysPart StatementFault
-  after at rs a = elim a [ Ok more ↦ days_from t roster more (at + 412) rs | Err f ↦ Err (settlement_fault f at) ]
-
-  taken_first : (at : ℕ) (rs : Records) (days : DaysPart) (a : Result (List DayRow) SettlementFault) → after at rs a ≡ Ok days → (more : List DayRow) × ((a ≡ Ok more) × (days_from t roster more (at + 412) rs ≡ Ok days))
-  taken_first at rs days (Ok more) h = (more, (refl, h))
-  taken_first at rs days (Err f) h = not_taken _ _ h
-
   go_on : (at : ℕ) (rs : Records) (rows more : List DayRow) (d : SubmittedDay) (days : DaysPart) → recorded t roster rows d ≡ Ok more → days_from t roster more (at + 412) rs ≡ Ok days → days_from t roster rows at (Ok (Day d) ∷ rs) ≡ Ok days
   unfolding days_from
-  go_on at rs rows more d days e h = ap (after at rs) e ∙ h
+  go_on at rs rows more d days e h = ap (after_day t roster at rs) e ∙ h
 
   go_back : (at : ℕ) (rs : Records) (rows : List DayRow) (d : SubmittedDay) (days : DaysPart) → DaysFit roster rows → days_from t roster rows at (Ok (Day d) ∷ rs) ≡ Ok days
       → MayTake rows d × (days_from t roster (set rows (place_of d.at) (row_of d)) (at + 412) rs ≡ Ok days)
   unfolding days_from
   go_back at rs rows d days fit h =
-      let a = taken_first at rs days (recorded t roster rows d) h in
+      let a = day_first t roster at rs days (recorded t roster rows d) h in
       let k = recorded_taken t roster rows a.0 d fit a.1.0 in
       (k.0, subst (λ (x : List DayRow). days_from t roster x (at + 412) rs ≡ Ok days) k.2 a.1.1)
 
@@ -109,37 +99,15 @@ module _ (t : MonthTerms) (roster : List RosterEntry) where
       let a = go_back at (zs ++ Ok (Day c) ∷ Ok (Day d) ∷ ys) rows x days fit h in
       go_on at (zs ++ Ok (Day d) ∷ Ok (Day c) ∷ ys) rows (set rows (place_of x.at) (row_of x)) x days (placed rows x a.0)
       (days_swap zs ys c d (at + 412) days (set rows (place_of x.at) (row_of x)) (still_fit rows _ _ fit) a.1)
-  days_swap (Err f ∷ zs) ys c d at days rows fit h = not_taken _ _ h
-  days_swap (Ok (Month m) ∷ zs) ys c d at days rows fit h = not_taken _ _ h
-  days_swap (Ok (Resource x) ∷ zs) ys c d at days rows fit h = not_taken _ _ h
+  days_swap (Err f ∷ zs) ys c d at days rows fit h = cc
+  days_swap (Ok (Month m) ∷ zs) ys c d at days rows fit h = cc
+  days_swap (Ok (Resource x) ∷ zs) ys c d at days rows fit h = cc
 
 -- The resources are the same, and after them the same days are exchanged.
 pub record Exchanged (roster : List RosterEntry) (at : ℕ) (xs ys : Records) (c d : SubmittedDay) (part : RosterPart) : Type 0 where
   pub between : Records
   pub rest : part.rest ≡ between ++ Ok (Day c) ∷ Ok (Day d) ∷ ys
   pub listed : roster_from roster at (xs ++ Ok (Day d) ∷ Ok (Day c) ∷ ys) ≡ Ok (record { roster = part.roster; offset = part.offset; rest = between ++ Ok (Day d) ∷ Ok (Day c) ∷ ys })
-
--- one resource more
-abbrev numbered : Bool → RosterEntry → Result (Option RosterEntry) ReaderFault
-numbered b e = cond b (Ok (Some e)) (Err Misplaced)
-
-abbrev entered : ℕ → Records → Result (List RosterEntry) SettlementFault → Result RosterPart StatementFault
-entered at rs a = elim a [ Ok more ↦ roster_from more (at + 16) rs | Err f ↦ Err (settlement_fault f at) ]
-
-abbrev listing : List RosterEntry → ℕ → Records → Records → Result (Option RosterEntry) ReaderFault → Result RosterPart StatementFault
-listing roster at whole rs a = elim a [
-  | Ok o ↦ elim o [ Some e ↦ entered at rs (enrolled roster e) | None ↦ Ok (record { roster = roster; offset = at; rest = whole }) ]
-  | Err f ↦ Err (reader_fault f at)
-]
-
-entered_first : (at : ℕ) (rs : Records) (part : RosterPart) (a : Result (List RosterEntry) SettlementFault) → entered at rs a ≡ Ok part → (more : List RosterEntry) × ((a ≡ Ok more) × (roster_from more (at + 16) rs ≡ Ok part))
-entered_first at rs part (Ok more) h = (more, (refl, h))
-entered_first at rs part (Err f) h = not_taken _ _ h
-
-listed_first : (roster : List RosterEntry) (at : ℕ) (whole rs : Records) (part : RosterPart) (e : RosterEntry) (b : Bool) → listing roster at whole rs (numbered b e) ≡ Ok part
-    → (b ≡ true) × ((more : List RosterEntry) × ((enrolled roster e ≡ Ok more) × (roster_from more (at + 16) rs ≡ Ok part)))
-listed_first roster at whole rs part e true h = (refl, entered_first at rs part (enrolled roster e) h)
-listed_first roster at whole rs part e false h = not_taken _ _ h
 
 roster_swap : (xs ys : Records) (c d : SubmittedDay) (roster : List RosterEntry) (at : ℕ) (part : RosterPart) → roster_from roster at (xs ++ Ok (Day c) ∷ Ok (Day d) ∷ ys) ≡ Ok part → Exchanged roster at xs ys c d part
 unfolding roster_from
@@ -155,8 +123,8 @@ roster_swap (Ok (Resource x) ∷ xs) ys c d roster at part h =
           ap (λ (b : Bool). listing roster at (Ok (Resource x) ∷ xs ++ Ok (Day d) ∷ Ok (Day c) ∷ ys) (xs ++ Ok (Day d) ∷ Ok (Day c) ∷ ys) (numbered b x.entry)) a.0
           ∙ ap (entered at (xs ++ Ok (Day d) ∷ Ok (Day c) ∷ ys)) a.1.1.0 ∙ k.listed;
     }
-roster_swap (Err f ∷ xs) ys c d roster at part h = not_taken _ _ h
-roster_swap (Ok (Month m) ∷ xs) ys c d roster at part h = not_taken _ _ h
+roster_swap (Err f ∷ xs) ys c d roster at part h = cc
+roster_swap (Ok (Month m) ∷ xs) ys c d roster at part h = cc
 
 -- what comes after the resources
 part_swap : (t : MonthTerms) (part : RosterPart) (zs ys : Records) (c d : SubmittedDay) (s : MonthStatement) → RosterFits part.roster → part.rest ≡ zs ++ Ok (Day c) ∷ Ok (Day d) ∷ ys
@@ -168,18 +136,18 @@ part_swap t part zs ys c d s fits e h =
     let dated = subst (λ (x : Records). days_from t part.roster (no_days part.roster) part.offset x ≡ Ok b.0) e b.1.0 in
     let fit : DaysFit part.roster (no_days part.roster) = (fits, length-replicate (31 * length part.roster) None) in
     let swapped = days_swap t part.roster zs ys c d part.offset b.0 (no_days part.roster) fit dated in
-    ap (λ (x : Result (Unit {0}) StatementFault). and_then x (λ _. and_then (days_from t part.roster (no_days part.roster) part.offset (zs ++ Ok (Day d) ∷ Ok (Day c) ∷ ys)) (λ days. told_at days.offset (closed_month t part.roster days.rows)))) a.1.0
-    ∙ ap (λ (x : Result DaysPart StatementFault). and_then x (λ days. told_at days.offset (closed_month t part.roster days.rows))) swapped
+    ap (λ (x : Result (Unit {0}) (Located StatementFault)). and_then x (λ _. and_then (days_from t part.roster (no_days part.roster) part.offset (zs ++ Ok (Day d) ∷ Ok (Day c) ∷ ys)) (λ days. told_at days.offset (closed_month t part.roster days.rows)))) a.1.0
+    ∙ ap (λ (x : Result DaysPart (Located StatementFault)). and_then x (λ days. told_at days.offset (closed_month t part.roster days.rows))) swapped
     ∙ b.1.1
 
 pub days_in_any_order : DaysInAnyOrder
 unfolding settled_records
-days_in_any_order [] ys c d s h = not_taken _ _ h
-days_in_any_order (Err f ∷ xs) ys c d s h = not_taken _ _ h
-days_in_any_order (Ok (Resource x) ∷ xs) ys c d s h = not_taken _ _ h
-days_in_any_order (Ok (Day x) ∷ xs) ys c d s h = not_taken _ _ h
+days_in_any_order [] ys c d s h = cc
+days_in_any_order (Err f ∷ xs) ys c d s h = cc
+days_in_any_order (Ok (Resource x) ∷ xs) ys c d s h = cc
+days_in_any_order (Ok (Day x) ∷ xs) ys c d s h = cc
 days_in_any_order (Ok (Month t) ∷ xs) ys c d s h =
     let a = parts (roster_from [] 36 (xs ++ Ok (Day c) ∷ Ok (Day d) ∷ ys)) (settled_from t) s h in
     let k = roster_swap xs ys c d [] 36 a.0 a.1.0 in
     let fits = listed_fits 36 (xs ++ Ok (Day c) ∷ Ok (Day d) ∷ ys) a.0 [] (omega arith, λ i l. omega arith) a.1.0 in
-    ap (λ (x : Result RosterPart StatementFault). and_then x (settled_from t)) k.listed ∙ part_swap t a.0 k.between ys c d s fits k.rest a.1.1
+    ap (λ (x : Result RosterPart (Located StatementFault)). and_then x (settled_from t)) k.listed ∙ part_swap t a.0 k.between ys c d s fits k.rest a.1.1

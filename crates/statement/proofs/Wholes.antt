@@ -1,5 +1,5 @@
 -- A month file settled part by part.
-use Rattle.std.proofs.Common.{◌≡◌, ℕ, zero, suc, ◌*◌, ◌<◌, List, [], ◌∷◌, length, get_or, drop, replicate, Ok, Err, Result, sym, refl, ap, ◌∙◌, subst, inl, inr, arith, None}
+use Rattle.std.proofs.Common.{◌≡◌, ℕ, ◌*◌, ◌<◌, List, [], ◌∷◌, length, drop, replicate, Ok, Err, Result, sym, refl, ap, ◌∙◌, subst, inl, inr, arith, rules, None}
 use Rattle.std.proofs.lemmas.Bool.{cases_eq}
 use Rattle.assessment.specs.Lines.{RowWithin}
 use Rattle.assessment.specs.Figures.{DayRow}
@@ -13,7 +13,6 @@ use Rattle.settlement.specs.declared.tables.RosterEntry.{RosterEntry}
 use Rattle.statement.specs.Answers.{and_then}
 use Rattle.statement.specs.Files.{Records, records_of, month_part, roster_from, reader_fault, settlement_fault}
 use Rattle.statement.specs.Layout.{record_of}
-use Rattle.statement.specs.Located.{placed}
 use Rattle.statement.specs.Months.{roster_part, opened_month, days_recorded}
 use Rattle.statement.specs.Open.{MonthSoFar}
 use Rattle.statement.specs.Reading.{as_month}
@@ -22,22 +21,17 @@ use Rattle.statement.specs.declared.fault.Located.{Located}
 use Rattle.statement.specs.declared.fault.ReaderFault.{ReaderFault}
 use Rattle.statement.specs.declared.fault.ReaderFault.TheVariants.{EndsInside}
 use Rattle.statement.specs.declared.fault.StatementFault.{StatementFault}
-use Rattle.statement.specs.declared.fault.StatementFault.TheVariants.{Reader}
 use Rattle.statement.specs.declared.records.FileRecord.{FileRecord}
-use Rattle.statement.proofs.Parsed.{records_none, records_some, rest_month, placed_err}
+use Rattle.statement.proofs.Printed.{all_same}
+use Rattle.statement.proofs.Parsed.{records_none, records_some, rest_month}
 
 pub open_phase : (t : MonthTerms) (v : View (Overlaid Balances)) → v ≡ open_view t → v.phase ≡ open_at t.month t.price
 unfolding open_view
 open_phase t v e = ap (λ (u : View (Overlaid Balances)). u.phase) e
 
 -- an empty day table
-all_empty : (n k : ℕ) → get_or {A = DayRow} (replicate n None) k None ≡ None
-all_empty zero k = refl
-all_empty (suc n) zero = refl
-all_empty (suc n) (suc k) = all_empty n k
-
 pub empty_within : (rows : List DayRow) (n : ℕ) → rows ≡ replicate n None → EachRowWithin rows
-empty_within rows n e = subst EachRowWithin (sym e) (λ k lt. subst RowWithin (sym (all_empty n k)) ((omega arith, omega arith), (omega arith, omega arith)))
+empty_within rows n e = subst EachRowWithin (sym e) (λ k lt. subst RowWithin (sym (all_same {A = DayRow} None n k)) ((omega arith, omega arith), (omega arith, omega arith)))
 
 -- the month opened over an empty day table
 pub opened_taken : (t : MonthTerms) (roster : List RosterEntry) (rows : List DayRow) (n : ℕ) → n ≡ 31 * length roster → opens t ≡ Ok tt → rows ≡ replicate n None → opened_month t roster ≡ Ok (record { terms = t; roster = roster; rows = rows })
@@ -59,9 +53,6 @@ first_month rs r t h = rw (h, month_part)
 first_fault : (rs : Records) (r : Result FileRecord ReaderFault) (f : ReaderFault) → as_month r ≡ Err f → month_part (r ∷ rs) ≡ Err (reader_fault f 0)
 first_fault rs r f h = rw (h, month_part)
 
-err_same : {T : Type 0} {f g : ReaderFault} → ◌≡◌ {A = Result T ReaderFault} (Err f) (Err g) → f ≡ g
-err_same h = cc
-
 -- an empty file ends inside its first record
 empty_fault : (bs : List ℕ) → length bs ≡ 0 → as_month (record_of bs) ≡ Err EndsInside
 empty_fault bs e = rw e
@@ -79,26 +70,20 @@ module _ (bs : List ℕ) where
   month_none : length bs ≡ 0 → month_part (records_of bs) ≡ Err (reader_fault EndsInside 0)
   month_none e = ap month_part (records_none bs 0 (omega arith))
 
-  pub month_refused : (r : Result MonthTerms ReaderFault) (l : Located ReaderFault) → r ≡ as_month (record_of bs) → placed r 0 ≡ Err l → month_part (records_of bs) ≡ Err (Reader l)
-  month_refused r l v h =
-      let p = placed_err r 0 l h in
+  pub month_refused : (r : Result MonthTerms ReaderFault) (f : ReaderFault) → r ≡ as_month (record_of bs) → r ≡ Err f → month_part (records_of bs) ≡ Err (reader_fault f 0)
+  month_refused r f v h =
       elim (cases_eq (length bs) 0) [
-        | inl e ↦
-            let f = empty_fault bs e in
-            month_none e ∙ ap (λ (x : Located ReaderFault). Err (Reader x)) (ap (λ (x : ReaderFault). record { fault = x; offset = 0 }) (err_same (sym f ∙ sym v ∙ p.1)) ∙ sym p.2)
-        | inr ne ↦
-            ap month_part (records_some bs (omega arith)) ∙ first_fault _ (record_of bs) p.0 (sym v ∙ p.1)
-            ∙ ap (λ (x : Located ReaderFault). Err (Reader x)) (sym p.2)
+        | inl e ↦ let x = empty_fault bs e in month_none e ∙ cc
+        | inr ne ↦ ap month_part (records_some bs (omega arith)) ∙ first_fault _ (record_of bs) f (sym v ∙ h)
       ]
 
-  pub settled_unread : (f : StatementFault) → month_part (records_of bs) ≡ Err f → settled bs ≡ Err f
+  pub settled_unread : (f : Located StatementFault) → month_part (records_of bs) ≡ Err f → settled bs ≡ Err f
   unfolding settled settled_records
   settled_unread f h = rw h
 
 -- the month opened, its days recorded, and the close
-chained : (x : Result (Unit {0}) StatementFault) (m : MonthSoFar) (g : MonthSoFar → Result MonthStatement StatementFault) → and_then x (λ _. g m) ≡ and_then (and_then x (λ _. Ok m)) g
-chained (Ok x) m g = refl
-chained (Err f) m g = refl
+chained : (x : Result (Unit {0}) (Located StatementFault)) (m : MonthSoFar) (g : MonthSoFar → Result MonthStatement (Located StatementFault)) → and_then x (λ _. g m) ≡ and_then (and_then x (λ _. Ok m)) g
+chained x m g = search rules
 
 pub settled_open : (t : MonthTerms) (bs : List ℕ) (roster : List RosterEntry) → settled_from t (roster_part bs roster) ≡ and_then (opened_month t roster) (λ m. and_then (days_recorded m bs) (λ days. told_at days.offset (closed_month m.terms m.roster days.rows)))
 unfolding settled_from

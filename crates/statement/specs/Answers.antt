@@ -1,8 +1,9 @@
 -- Answers that are taken or refused, one after another.
 use Rattle.std.specs.Prelude.{◌≡◌, Bool, cond, Ok, Err, Result}
-use Rattle.statement.specs.declared.fault.MonthError.{MonthError}
-use Rattle.statement.specs.declared.fault.MonthError.TheVariants.{Fault, OutOfMemory}
+use Rattle.statement.specs.declared.fault.Located.{Located}
 use Rattle.statement.specs.declared.fault.StatementFault.{StatementFault}
+use Rattle.statement.specs.declared.no_statement.NoStatement.{NoStatement}
+use Rattle.statement.specs.declared.no_statement.NoStatement.TheVariants.{Refused, OutOfMemory}
 
 -- an answer where the test holds, else the fault
 abbrev pub require : {A E : Type 0} → Bool → E → Result A E → Result A E
@@ -20,7 +21,7 @@ Leaves (Err e) v d = d ≡ Err e
 
 -- For inner contracts: the same of a call that returns its value, which `see` turns into that of the definition. Memory that runs out
 -- tells nothing of the definition.
-abbrev pub AnswersInMemory : {T V : Type 0} → (T → V) → Result T MonthError → Result V StatementFault → Type 0
+abbrev pub AnswersInMemory : {T V : Type 0} → (T → V) → Result T NoStatement → Result V (Located StatementFault) → Type 0
 AnswersInMemory see (Ok x) d = d ≡ Ok (see x)
-AnswersInMemory see (Err (Fault f)) d = d ≡ Err f
+AnswersInMemory see (Err (Refused f)) d = d ≡ Err f
 AnswersInMemory see (Err OutOfMemory) d = Unit {0}

@@ -8,6 +8,7 @@ use Rattle.statement.specs.Reading.{as_month, as_resource}
 use Rattle.statement.specs.Rosters.{enrolled}
 use Rattle.statement.specs.declared.fault.ReaderFault.{ReaderFault}
 use Rattle.statement.specs.declared.fault.ReaderFault.TheVariants.{EndsInside}
+use Rattle.statement.specs.declared.fault.Located.{Located}
 use Rattle.statement.specs.declared.fault.StatementFault.{StatementFault}
 use Rattle.statement.specs.declared.fault.StatementFault.TheVariants.{Reader, Settlement}
 use Rattle.statement.specs.declared.records.FileRecord.{FileRecord}
@@ -27,12 +28,12 @@ unfoldable pub records_of : List ℕ → Records
 records_of bs = records_from (length bs) bs
 
 -- a fault of the reader at a byte offset
-abbrev pub reader_fault : ReaderFault → ℕ → StatementFault
-reader_fault f at = Reader (record { fault = f; offset = at })
+abbrev pub reader_fault : ReaderFault → ℕ → Located StatementFault
+reader_fault f at = record { fault = Reader f; offset = at }
 
 -- a fault of the settlement at a byte offset
-abbrev pub settlement_fault : SettlementFault → ℕ → StatementFault
-settlement_fault f at = Settlement (record { fault = f; offset = at })
+abbrev pub settlement_fault : SettlementFault → ℕ → Located StatementFault
+settlement_fault f at = record { fault = Settlement f; offset = at }
 
 -- the month record comes first; the other records follow it
 pub record MonthPart : Type 0 where
@@ -40,7 +41,7 @@ pub record MonthPart : Type 0 where
   pub rest : Records
 
 -- an empty file ends inside its first record
-abbrev pub month_part : Records → Result MonthPart StatementFault
+abbrev pub month_part : Records → Result MonthPart (Located StatementFault)
 month_part [] = Err (reader_fault EndsInside 0)
 month_part (r ∷ rs) = elim (as_month r) [ Ok t ↦ Ok (record { terms = t; rest = rs }) | Err f ↦ Err (reader_fault f 0) ]
 
@@ -51,7 +52,7 @@ pub record RosterPart : Type 0 where
   pub rest : Records
 
 -- the roster so far grows by one resource after another, up to the first day
-unfoldable pub roster_from : List RosterEntry → ℕ → Records → Result RosterPart StatementFault
+unfoldable pub roster_from : List RosterEntry → ℕ → Records → Result RosterPart (Located StatementFault)
 roster_from roster at [] = Ok (record { roster = roster; offset = at; rest = [] })
 roster_from roster at (r ∷ rs) = elim (as_resource (length roster) r) [
   | Ok o ↦ elim o [

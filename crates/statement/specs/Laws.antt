@@ -9,7 +9,7 @@ use Rattle.pools.specs.declared.pool.Pool.{Pool}
 use Rattle.pools.specs.declared.pool.Pool.TheVariants.{Generic, Flexible}
 use Rattle.settlement.specs.Accounts.{Settled}
 use Rattle.settlement.specs.Closing.{Closes}
-use Rattle.settlement.specs.Runs.{DayTaken, MonthClosed}
+use Rattle.settlement.specs.Runs.{MonthClosed}
 use Rattle.settlement.specs.Views.{View}
 use Rattle.settlement.specs.declared.tables.RosterEntry.{RosterEntry}
 use Rattle.settlement.specs.declared.tables.LineEntry.{LineEntry}
@@ -57,14 +57,10 @@ pub record PrintsClose (bs out : List ℕ) : Type 0 where
   pub closed : ClosedBy month
   pub prints : out ≡ statement_text month
 
--- a day of the file, as the settlement is handed it
-abbrev pub day_taken : SubmittedDay → DayTaken
-day_taken d = record { at = d.at; submission = d.submission }
-
 -- the days that follow the resources, the latest first
-unfoldable pub days_taken : List DayTaken → Records → List DayTaken
+unfoldable pub days_taken : List SubmittedDay → Records → List SubmittedDay
 days_taken ds [] = ds
-days_taken ds (r ∷ rs) = elim (as_day r) [ Ok d ↦ days_taken (day_taken d ∷ ds) rs | Err f ↦ ds ]
+days_taken ds (r ∷ rs) = elim (as_day r) [ Ok d ↦ days_taken (d ∷ ds) rs | Err f ↦ ds ]
 
 -- the month of a statement, as the accountant's law speaks of it: opened by the file's month record, over the file's resources, with
 -- the file's days taken, and closed with what the statement tells

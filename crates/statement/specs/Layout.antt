@@ -1,5 +1,5 @@
 -- What stands where in a month file.
-use Rattle.std.specs.Prelude.{ℕ, ◌+◌, ◌*◌, ◌/◌, cond, List, map, length, drop, Ok, Err, Result, ◌==◌, nat_lt, slice_index}
+use Rattle.std.specs.Prelude.{ℕ, ◌+◌, ◌*◌, cond, List, map, length, drop, Ok, Err, Result, ◌==◌, nat_lt, slice_index}
 use Rattle.std.specs.List.{range_with_len}
 use Rattle.assessment.specs.declared.submission.HourBids.{HourBids}
 use Rattle.statement.specs.declared.fault.ReaderFault.{ReaderFault}
@@ -15,16 +15,14 @@ word_at bs i = slice_index bs i * 16777216 + slice_index bs (i + 1) * 65536 + sl
 unfoldable pub words_of : ℕ → List ℕ → List ℕ
 words_of n bs = map (λ i. word_at bs (4 * i)) (range_with_len 0 n)
 
-abbrev pub first_words : ℕ → List ℕ → Result (List ℕ) ReaderFault
-first_words n bs = cond (nat_lt (length bs / 4) n) (Err EndsInside) (Ok (words_of n bs))
-
--- for inner contracts: the bids of each hour, in 4 words an hour
+-- for inner contracts: the bids of hour h, counted from 0, of words that are 4 for each hour
 abbrev pub hour_told : List ℕ → ℕ → HourBids
 hour_told ws h = record {
   day_ahead = record { economic = slice_index ws (4 * h); self_scheduled = slice_index ws (4 * h + 1) };
   real_time = record { economic = slice_index ws (4 * h + 2); self_scheduled = slice_index ws (4 * h + 3) };
 }
 
+-- for inner contracts: the bids of all 24 hours, of 96 such words
 unfoldable pub hours_told : List ℕ → List HourBids
 hours_told ws = map (hour_told ws) (range_with_len 0 24)
 

@@ -8,6 +8,7 @@ use Rattle.settlement.specs.Tables.{pool_at}
 use Rattle.settlement.specs.declared.tables.LineEntry.{LineEntry}
 use Rattle.statement.specs.Rows.{header_row, line_row, pool_row, refusal_row}
 use Rattle.statement.specs.Settling.{MonthStatement, settled}
+use Rattle.statement.specs.declared.fault.Located.{Located}
 use Rattle.statement.specs.declared.fault.StatementFault.{StatementFault}
 
 -- an empty line is not printed
@@ -36,12 +37,12 @@ statement_text s =
     header_row s.terms ++ line_rows s.lines ++ pool_row Generic s.pools.generic s.shown.generic ++ pool_row Flexible s.pools.flexible s.shown.flexible
 
 -- what is printed for what a file comes to
-abbrev pub printed : Result MonthStatement StatementFault → List ℕ
+abbrev pub printed : Result MonthStatement (Located StatementFault) → List ℕ
 printed (Ok s) = statement_text s
 printed (Err f) = refusal_row f
 
 -- whether it is a statement
-abbrev pub is_taken : Result MonthStatement StatementFault → Bool
+abbrev pub is_taken : Result MonthStatement (Located StatementFault) → Bool
 is_taken (Ok s) = true
 is_taken (Err f) = false
 

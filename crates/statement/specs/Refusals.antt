@@ -1,23 +1,19 @@
 -- Why a month file has no statement.
-use Rattle.std.specs.Prelude.{◌≡◌, ℕ, false, List, Some, Option, codes}
+use Rattle.std.specs.Prelude.{◌≡◌, ℕ, false, List, Some, Err, Option, codes, IsOk}
+use Rattle.statement.specs.Files.{records_of, month_part}
 use Rattle.statement.specs.Printing.{output, is_settled}
 use Rattle.statement.specs.Rows.{refusal_row}
-use Rattle.statement.specs.declared.fault.MonthError.{MonthError}
-use Rattle.statement.specs.declared.fault.MonthError.TheVariants as month
-use Rattle.statement.specs.declared.job.NoStatement.{NoStatement}
-use Rattle.statement.specs.declared.job.NoStatement.TheVariants.{Refused, OutOfMemory}
-
--- a fault is told in one line; want of memory stays what it is
-abbrev pub no_statement : MonthError → NoStatement
-no_statement (month.Fault f) = Refused (refusal_row f)
-no_statement month.OutOfMemory = OutOfMemory
+use Rattle.statement.specs.Settling.{settled}
+use Rattle.statement.specs.declared.no_statement.NoStatement.{NoStatement}
+use Rattle.statement.specs.declared.no_statement.NoStatement.TheVariants.{Refused, OutOfMemory}
 
 -- what is shown for such a file: the line of the refusal, or the want of memory
 abbrev pub shown : NoStatement → Option (List ℕ)
-shown (Refused line) = Some line
+shown (Refused f) = Some (refusal_row f)
 shown OutOfMemory = Some (codes "memory allocation failed")
 
--- a file refused has the line as its whole output; want of memory tells nothing of the file
+-- A file refused is not settled, but comes to this fault, and the fault's line is its whole output. Memory is first asked for after the month
+-- record, so where it runs out there is one; nothing else follows, since with more memory the file may be settled as well as refused.
 abbrev pub RefusedBy : List ℕ → NoStatement → Type 0
-RefusedBy bs (Refused line) = (is_settled bs ≡ false) × (line ≡ output bs)
-RefusedBy bs OutOfMemory = Unit {0}
+RefusedBy bs (Refused f) = (is_settled bs ≡ false) × (settled bs ≡ Err f) × (refusal_row f ≡ output bs)
+RefusedBy bs OutOfMemory = IsOk (month_part (records_of bs))

@@ -9,6 +9,7 @@ use Rattle.settlement.specs.declared.tables.MonthTerms.{MonthTerms}
 use Rattle.settlement.specs.declared.tables.LineEntry.{LineEntry}
 use Rattle.settlement.specs.declared.tables.PoolClose.{PoolClose}
 use Rattle.statement.specs.Faults.{label}
+use Rattle.statement.specs.declared.fault.Located.{Located}
 use Rattle.statement.specs.declared.fault.StatementFault.{StatementFault}
 
 -- a number below 100 in two digits
@@ -32,6 +33,6 @@ pool_row p c shown =
     ++ decimal c.payments ++ codes " " ++ decimal shown ++ codes "\n"
 
 -- number, layer, byte offset
-abbrev pub refusal_row : StatementFault → List ℕ
+abbrev pub refusal_row : Located StatementFault → List ℕ
 refusal_row f =
     codes "REFUSED " ++ decimal (label f).number ++ codes " " ++ ((label f).layer ∷ []) ++ codes " " ++ decimal (label f).place ++ codes "\n"

@@ -31,6 +31,7 @@ use Rattle.settlement.specs.declared.tables.PoolClose.{PoolClose}
 use Rattle.statement.specs.Answers.{require, and_then}
 use Rattle.statement.specs.Files.{Records, records_of, RosterPart, month_part, roster_from, reader_fault, settlement_fault}
 use Rattle.statement.specs.Reading.{as_day}
+use Rattle.statement.specs.declared.fault.Located.{Located}
 use Rattle.statement.specs.declared.fault.StatementFault.{StatementFault}
 use Rattle.settlement.specs.declared.tables.SubmittedDay.{SubmittedDay}
 
@@ -123,7 +124,7 @@ abbrev pub days_part : List DayRow → ℕ → DaysPart
 days_part rows at = record { rows = rows; offset = at }
 
 -- the days, from a byte offset on
-unfoldable pub days_from : MonthTerms → List RosterEntry → List DayRow → ℕ → Records → Result DaysPart StatementFault
+unfoldable pub days_from : MonthTerms → List RosterEntry → List DayRow → ℕ → Records → Result DaysPart (Located StatementFault)
 days_from t roster rows at [] = Ok (days_part rows at)
 days_from t roster rows at (r ∷ rs) = elim (as_day r) [
   | Ok d ↦ elim (recorded t roster rows d) [ Ok more ↦ days_from t roster more (at + 412) rs | Err f ↦ Err (settlement_fault f at) ]
@@ -170,7 +171,7 @@ module _ (t : MonthTerms) (roster : List RosterEntry) (rows : List DayRow) where
       (require (nat_le (fund_in Flexible) limit) (Book (OverLimit Flexible)) (Ok closed_statement))
 
 -- a fault told at a byte offset
-abbrev pub told_at : {A : Type 0} → ℕ → Result A SettlementFault → Result A StatementFault
+abbrev pub told_at : {A : Type 0} → ℕ → Result A SettlementFault → Result A (Located StatementFault)
 told_at at (Ok x) = Ok x
 told_at at (Err f) = Err (settlement_fault f at)
 
@@ -184,19 +185,19 @@ no_days roster = replicate (31 * length roster) None
 
 -- The month is opened once the first day has passed the reader, or at the file's end; then come the days, and the close.
 -- A fault of open is told at the month record, one of the close at the end of the records, which is the file's length.
-unfoldable pub settled_from : MonthTerms → RosterPart → Result MonthStatement StatementFault
+unfoldable pub settled_from : MonthTerms → RosterPart → Result MonthStatement (Located StatementFault)
 settled_from t part =
     and_then (told_at 0 (opens t)) (λ _.
     and_then (days_from t part.roster (no_days part.roster) part.offset part.rest) (λ days.
     told_at days.offset (closed_month t part.roster days.rows)))
 
 -- what a list of records comes to
-unfoldable pub settled_records : Records → Result MonthStatement StatementFault
+unfoldable pub settled_records : Records → Result MonthStatement (Located StatementFault)
 settled_records rs =
     and_then (month_part rs) (λ m.
     and_then (roster_from [] 36 m.rest) (λ part.
     settled_from m.terms part))
 
 -- what a month file comes to
-unfoldable pub settled : List ℕ → Result MonthStatement StatementFault
+unfoldable pub settled : List ℕ → Result MonthStatement (Located StatementFault)
 settled bs = settled_records (records_of bs)

@@ -7,9 +7,10 @@ use pools::per_pool::PerPool;
 use settlement::tables::{LineEntry, MonthTerms, PoolClose};
 
 // A closed month: its settings and standing, two lines a resource, what each pool comes to, and the balance that it then shows.
-#[derive(Drop)]
+#[derive(PartialEq, Eq, Debug, Drop)]
 pub(crate) struct ClosedMonth {
     pub terms: MonthTerms,
+    // The terms tell it by a number, as handed in.
     pub standing: Standing,
     pub lines: Vec<LineEntry>,
     pub pools: PerPool<PoolClose>,

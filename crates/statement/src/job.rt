@@ -3,59 +3,17 @@ ghost use Rattle.std.specs.Prelude.{◌≡◌, true, ◌++◌, IfOk, IfErr, OnOk
 ghost use Rattle.statement.specs.Laws.{PrintsClose, StatementsKeepTheLaw, RefusedInOneLine, RecordsDecide, DaysInAnyOrder};
 ghost use Rattle.statement.specs.Months.{closed_of};
 ghost use Rattle.statement.specs.Printing.{place_row, line_rows, statement_text, output, is_settled};
-ghost use Rattle.statement.specs.Refusals.{shown, no_statement, RefusedBy};
-ghost use Rattle.statement.specs.declared.job.NoStatement.TheVariants.{OutOfMemory};
+ghost use Rattle.statement.specs.Refusals.{RefusedBy};
 
 use crate::closed_month::ClosedMonth;
-use crate::fault::MonthError;
 use crate::line::PrintedLine;
 use crate::month::settle_month;
-use crate::rows::{header_row, line_row, pool_row, refusal_row};
+use crate::no_statement::NoStatement;
+use crate::rows::{header_row, line_row, pool_row};
 use assessment::line::LineState;
 use pools::pool::Pool;
-use settlement::tables::{LineEntry, pool_at};
+use settlement::tables::{LINES, LineEntry, pool_at};
 use std::alloc::{AllocError, Global};
-use std::error::Error;
-use std::fmt;
-
-// Why a month file has no statement: it is refused, in this line, or memory ran out.
-#[derive(Debug, Drop)]
-pub enum NoStatement {
-    Refused(PrintedLine),
-    OutOfMemory,
-}
-
-impl fmt::Display for NoStatement {
-    ghost output = { shown };
-
-    fn fmt<W: fmt::Write>(&self, f: &mut fmt::Formatter<W>) -> fmt::Result {
-        match self {
-            NoStatement::Refused(line) => write!(f, "{line}"),
-            NoStatement::OutOfMemory => write!(f, "memory allocation failed"),
-        }
-    }
-}
-
-impl Error for NoStatement {}
-
-impl From<MonthError> for NoStatement {
-    ghost from_gives = { λ e r. r ≡ no_statement e };
-
-    fn from(e: MonthError) -> NoStatement {
-        match e {
-            MonthError::Fault(fault) => NoStatement::Refused(refusal_row(fault)),
-            MonthError::OutOfMemory => NoStatement::OutOfMemory,
-        }
-    }
-}
-
-impl From<AllocError> for NoStatement {
-    ghost from_gives = { λ _ r. r ≡ OutOfMemory };
-
-    fn from(_e: AllocError) -> NoStatement {
-        NoStatement::OutOfMemory
-    }
-}
 
 // The line of a place of the line table; an empty one is not printed.
 fn place_row(place: usize, entry: &LineEntry) -> PrintedLine
@@ -64,11 +22,12 @@ fn place_row(place: usize, entry: &LineEntry) -> PrintedLine
     match entry.line.state {
         LineState::Empty => PrintedLine::empty(),
         LineState::Charged | LineState::Neutral | LineState::Paid => {
-            line_row(place / 2, pool_at(place), entry)
+            line_row(place / LINES, pool_at(place), entry)
         }
     }
 }
 
+#[tactic(auto, unfolding(crate::specs::Printing::rows_to, crate::specs::Printing::line_rows))]
 fn put_lines(out: &mut Vec<u8>, lines: &[LineEntry]) -> Result<(), AllocError>
     ensures { OnOk result (out.new.items ≡ out.old.items ++ line_rows lines.now) }
 {
@@ -85,21 +44,14 @@ fn print_month(heap: Global, month: &ClosedMonth) -> Result<Vec<u8>, AllocError>
     let mut out = Vec::new(heap);
     out.extend_from_slice(header_row(month).written())?;
     put_lines(&mut out, &month.lines)?;
-    out.extend_from_slice(pool_row(
-        Pool::Generic,
-        &month.pools.generic,
-        month.shown.generic,
-    ).written())?;
-    out.extend_from_slice(pool_row(
-        Pool::Flexible,
-        &month.pools.flexible,
-        month.shown.flexible,
-    ).written())?;
+    // Two lines and no loop over Pool::ALL, which is longer and needs an invariant.
+    out.extend_from_slice(pool_row(month, Pool::Generic).written())?;
+    out.extend_from_slice(pool_row(month, Pool::Flexible).written())?;
     Ok(out)
 }
 
-// The statement of a month file.
-#[tactic(auto, using(crate::proofs::Accounted::statements_keep_the_law, crate::proofs::Lawful::refused_in_one_line, crate::proofs::Lawful::same_output, crate::proofs::Lawful::same_settled, crate::proofs::Reordered::days_in_any_order))]
+// The statement of a month file. `heap` is a handle, handed beside what it is needed for, as in the library.
+#[tactic(auto, using(crate::proofs::Outputs::laws, crate::proofs::Outputs::refused_by, crate::proofs::Outputs::settled_begun), unfolding(crate::specs::Printing::output, crate::specs::Printing::is_settled))]
 pub fn settle_file(heap: Global, file: &[u8]) -> Result<Vec<u8>, NoStatement>
     ensures settled { IfOk result (λ v. (is_settled file.now ≡ true) × (v.items ≡ output file.now)) }
     ensures refused { IfErr result (RefusedBy file.now) }

@@ -2,34 +2,30 @@
 ghost use Rattle.std.specs.Prelude.{◌≡◌};
 ghost use Rattle.statement.specs.Faults.{label};
 
-use crate::fault::{ReaderFault, StatementFault};
+use crate::fault::{Located, ReaderFault, StatementFault};
 use fund::label::Label;
 
+// Here and not with the other layers' letters, since each layer names its own.
 const LAYER: char = 'R';
 
-impl StatementFault {
+impl Located<StatementFault> {
     // A fault of the settlement keeps its own number and letter; every fault is told at its byte offset.
     pub fn label(self) -> Label<usize>
         ensures { result ≡ label self }
     {
-        match self {
-            StatementFault::Reader(told) => Label {
-                number: match told.fault {
-                    ReaderFault::EndsInside => 40,
-                    ReaderFault::UnknownKind => 41,
-                    ReaderFault::Misplaced => 43,
-                },
-                layer: LAYER,
-                place: told.offset,
-            },
-            StatementFault::Settlement(told) => {
-                let label = told.fault.label();
-                Label {
-                    number: label.number,
-                    layer: label.layer,
-                    place: told.offset,
-                }
+        let (number, layer) = match self.fault {
+            StatementFault::Reader(ReaderFault::EndsInside) => (40, LAYER),
+            StatementFault::Reader(ReaderFault::UnknownKind) => (41, LAYER),
+            StatementFault::Reader(ReaderFault::Misplaced) => (43, LAYER),
+            StatementFault::Settlement(fault) => {
+                let told = fault.label();
+                (told.number, told.layer)
             }
+        };
+        Label {
+            number,
+            layer,
+            place: self.offset,
         }
     }
 }

@@ -2,12 +2,13 @@
 #![tactic(auto)]
 
 mod closed_month;
-mod fault;
+pub mod fault;
 pub mod job;
 mod labels;
 pub mod line;
 mod month;
+pub mod no_statement;
 mod reader;
 mod records;
 mod roster;
-mod rows;
+pub mod rows;

@@ -1,19 +1,21 @@
 // A month file settled: read, opened, recorded and closed.
-ghost use Rattle.std.specs.Prelude.{◌≡◌, ◌≤◌, [], length, drop, IfOk};
+ghost use Rattle.std.specs.Prelude.{◌≡◌, ◌≤◌, [], length, drop, IfOk, IsOk, IsErrOf};
 ghost use Rattle.statement.specs.Answers.{Leaves, AnswersInMemory};
-ghost use Rattle.statement.specs.Files.{records_of, roster_from};
+ghost use Rattle.statement.specs.Files.{records_of, month_part, roster_from};
 ghost use Rattle.statement.specs.Laws.{ClosedBy};
 ghost use Rattle.statement.specs.Months.{roster_part, opened_month, days_recorded, closed_of};
 ghost use Rattle.statement.specs.Rosters.{days_offset};
 ghost use Rattle.statement.specs.Settling.{recorded, days_part, told_at, closed_month, settled};
+ghost use Rattle.statement.specs.declared.no_statement.NoStatement.TheVariants.{OutOfMemory};
 
 use crate::closed_month::ClosedMonth;
-use crate::fault::{MonthError, at_offset};
+use crate::fault::at_offset;
+use crate::no_statement::NoStatement;
 use crate::reader::{
     DAY_BYTES, MONTH_BYTES, RESOURCE_BYTES, day_record, month_record, roster_record,
 };
 use crate::roster::Roster;
-use assessment::day_result::{DAY_PLACES, DayRow};
+use assessment::day_result::{DAY_PLACES, DayFigures, DayRow};
 use assessment::flexible_rule::FlexibleRule;
 use assessment::generic_rule::GenericRule;
 use assessment::rule_pair::SHIPPED_RULES;
@@ -27,6 +29,7 @@ use std::alloc::Global;
 use std::marker::Model;
 
 // A month in progress: a settlement over a balance book under the advisory overlay, and the tables handed in with its calls.
+// Nothing else is derived, since a settlement has no comparison and no Debug.
 #[derive(Drop)]
 struct MonthInProgress {
     terms: MonthTerms,
@@ -46,25 +49,26 @@ impl Model for MonthInProgress {
     ghost invariant = { λ m. OpenedBy m.settlement (record { terms = m.terms; roster = m.roster; rows = m.rows.items }) };
 }
 
-fn read_roster(heap: Global, file: &[u8]) -> Result<Roster, MonthError>
+fn read_roster(heap: Global, file: &[u8]) -> Result<Roster, NoStatement>
     requires { 36 ≤ length file.now }
     ensures value { AnswersInMemory (roster_part file.now) result (roster_from [] 36 (records_of (drop 36 file.now))) }
     ensures within { IfOk result (λ r. days_offset r ≤ length file.now) }
 {
     let mut roster = Roster::empty(heap)?;
+    // By offsets, since a fault is told at one.
     for at in (MONTH_BYTES..file.len()).step_by(RESOURCE_BYTES) {
         let number = roster.entries().len();
-        let Some(entry) = at_offset(roster_record(&file[at..], number), at)? else {
-            break;
-        };
-        at_offset(roster.push(entry), at)?;
+        match at_offset(roster_record(&file[at..], number), at)? {
+            Some(entry) => at_offset(roster.push(entry), at)?,
+            None => return Ok(roster),
+        }
     }
     Ok(roster)
 }
 
 impl MonthInProgress {
     // Opens the month over an empty day table.
-    fn open(heap: Global, terms: MonthTerms, roster: Roster) -> Result<MonthInProgress, MonthError>
+    fn open(heap: Global, terms: MonthTerms, roster: Roster) -> Result<MonthInProgress, NoStatement>
         ensures { AnswersInMemory (λ m. m) result (opened_month terms roster) }
     {
         let mut rows = vec![in heap; None; DAY_PLACES * roster.entries().len()]?;
@@ -79,21 +83,21 @@ impl MonthInProgress {
         })
     }
 
-    fn record(&mut self, day: &SubmittedDay) -> Result<(), SettlementFault>
+    fn record(&mut self, day: &SubmittedDay) -> Result<DayFigures, SettlementFault>
         ensures value { Leaves result self.new.rows (recorded self.old.terms self.old.roster self.old.rows day.now) }
         ensures same { (self.new.terms ≡ self.old.terms) × (self.new.roster ≡ self.old.roster) }
     {
         self.settlement
             .record(self.roster.entries(), &mut self.rows, day)
-            .map(|_| ())
     }
 
     // Records the days, which follow the resources.
-    fn record_days(&mut self, file: &[u8]) -> Result<(), MonthError>
+    fn record_days(&mut self, file: &[u8]) -> Result<(), NoStatement>
         requires { days_offset self.old.roster ≤ length file.now }
         ensures value { AnswersInMemory (λ _. days_part self.new.rows (length file.now)) result (days_recorded self.old file.now) }
         ensures same { (self.new.terms ≡ self.old.terms) × (self.new.roster ≡ self.old.roster) }
     {
+        // By offsets, since a fault is told at one.
         for at in (self.roster.end()..file.len()).step_by(DAY_BYTES) {
             let day = at_offset(day_record(&file[at..]), at)?;
             at_offset(self.record(&day), at)?;
@@ -102,7 +106,7 @@ impl MonthInProgress {
     }
 
     // Closes the month, and looks up what the pools then show. A fault is told at the offset.
-    fn close(self, heap: Global, offset: usize) -> Result<ClosedMonth, MonthError>
+    fn close(self, heap: Global, offset: usize) -> Result<ClosedMonth, NoStatement>
         ensures value { AnswersInMemory closed_of result (told_at offset (closed_month self.terms self.roster self.rows)) }
         ensures closed { IfOk result (λ x. ClosedBy (closed_of x)) }
     {
@@ -123,14 +127,15 @@ impl MonthInProgress {
             standing,
             lines,
             pools,
-            shown: PerPool::of(|pool| settlement.account(pool).shown),
+            shown: PerPool::of(|pool| settlement.account(pool).balances.shown),
         })
     }
 }
 
 // The month that the file tells, closed; or the first fault.
-pub(crate) fn settle_month(heap: Global, file: &[u8]) -> Result<ClosedMonth, MonthError>
+pub(crate) fn settle_month(heap: Global, file: &[u8]) -> Result<ClosedMonth, NoStatement>
     ensures value { AnswersInMemory closed_of result (settled file.now) }
+    ensures begun { IsErrOf result OutOfMemory → IsOk (month_part (records_of file.now)) }
     ensures closed { IfOk result (λ x. ClosedBy (closed_of x)) }
 {
     let terms = at_offset(month_record(file), 0)?;

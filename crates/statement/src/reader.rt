@@ -1,6 +1,7 @@
 // Reads the records of a month file. Every field is a 32-bit word, most significant byte first.
-ghost use Rattle.std.specs.Prelude.{◌≡◌, ◌+◌, ◌≤◌, length, IfOk, OnOk};
-ghost use Rattle.statement.specs.Layout.{word_at, first_words, hours_told, month_of, resource_of, day_of, record_of, size_of};
+ghost use Rattle.std.specs.Prelude.{◌≡◌, ◌+◌, ◌*◌, ◌<◌, ◌≤◌, length, IfOk, OnOk, MatchResult};
+ghost use Rattle.statement.specs.Layout.{word_at, words_of, hours_told, month_of, resource_of, day_of, record_of, size_of};
+ghost use Rattle.statement.specs.declared.fault.ReaderFault.TheVariants.{EndsInside};
 ghost use Rattle.statement.specs.Reading.{as_month, as_resource, as_day};
 
 use crate::fault::ReaderFault;
@@ -11,7 +12,7 @@ use settlement::fault::ResourceDay;
 use settlement::tables::{MonthTerms, RosterEntry, SubmittedDay};
 use std::array;
 
-// How many bytes each kind of record takes, its first word among them.
+// How many bytes each kind of record takes, its first word among them: plain numbers, as docs/month-file.md gives them.
 pub const MONTH_BYTES: usize = 36;
 
 pub const RESOURCE_BYTES: usize = 16;
@@ -29,7 +30,7 @@ fn word(bytes: &[u8], at: usize) -> u32
 
 // The words that the bytes begin with; a file that has fewer ends inside its record.
 fn words<const N: usize>(bytes: &[u8]) -> Result<[u32; N], ReaderFault>
-    ensures { result ≡ first_words N bytes.now }
+    ensures { MatchResult result (λ ws. (4 * N ≤ length bytes.now) × (ws ≡ words_of N bytes.now)) (λ e. (length bytes.now < 4 * N) × (e ≡ EndsInside)) }
 {
     if bytes.len() / WORD_BYTES < N {
         return Err(ReaderFault::EndsInside);
@@ -53,6 +54,7 @@ fn hours(bids: &[u32; 96]) -> [HourBids; 24]
     })
 }
 
+#[tactic(auto, unfolding(crate::specs::Layout::month_of, crate::specs::Layout::words_of))]
 fn read_month(rest: &[u8]) -> Result<FileRecord, ReaderFault>
     ensures value { result ≡ month_of rest.now }
     ensures within { IfOk result (λ x. size_of x ≤ 4 + length rest.now) }
@@ -81,6 +83,7 @@ fn read_month(rest: &[u8]) -> Result<FileRecord, ReaderFault>
     }))
 }
 
+#[tactic(auto, unfolding(crate::specs::Layout::resource_of, crate::specs::Layout::words_of))]
 fn read_resource(rest: &[u8]) -> Result<FileRecord, ReaderFault>
     ensures value { result ≡ resource_of rest.now }
     ensures within { IfOk result (λ x. size_of x ≤ 4 + length rest.now) }
@@ -95,6 +98,7 @@ fn read_resource(rest: &[u8]) -> Result<FileRecord, ReaderFault>
     }))
 }
 
+#[tactic(auto, using(crate::proofs::Parsed::take_rest_length), unfolding(crate::specs::Layout::day_of))]
 fn read_day(rest: &[u8]) -> Result<FileRecord, ReaderFault>
     ensures value { result ≡ day_of rest.now }
     ensures within { IfOk result (λ x. size_of x ≤ 4 + length rest.now) }

@@ -8,7 +8,8 @@ use std::marker::Model;
 
 mod entries;
 
-#[derive(Drop)]
+// No comparison is derived: what a model shows of a Vec cannot give the Vec back.
+#[derive(Debug, Drop)]
 pub(crate) struct Roster {
     entries: Vec<RosterEntry>,
 }

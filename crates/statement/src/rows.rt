@@ -1,13 +1,14 @@
 // The lines of a statement, and the line of a refusal.
 // They are put piece by piece and not by `write!`: a line is always made, and of `write!` it is known what it writes only where it succeeds, but not that it does.
 ghost use Rattle.std.specs.Prelude.{◌≡◌, ◌+◌, ◌<◌, ◌≤◌, ◌++◌, length};
+ghost use Rattle.pools.specs.PerPool.{entry_of};
 ghost use Rattle.statement.specs.Rows.{two_digits, header_row, line_row, pool_row, refusal_row};
 
 use crate::closed_month::ClosedMonth;
-use crate::fault::StatementFault;
+use crate::fault::{Located, StatementFault};
 use crate::line::PrintedLine;
 use pools::pool::Pool;
-use settlement::tables::{LineEntry, PoolClose};
+use settlement::tables::LineEntry;
 
 fn put_two_digits(line: &mut PrintedLine, n: u32)
     requires { length line.old + 21 ≤ 96 }
@@ -58,9 +59,10 @@ pub(crate) fn line_row(resource: usize, pool: Pool, entry: &LineEntry) -> Printe
 }
 
 // A pool: its charges, rate, payments and the balance shown.
-pub(crate) fn pool_row(pool: Pool, close: &PoolClose, shown: u64) -> PrintedLine
-    ensures { result ≡ pool_row pool close.now shown }
+pub(crate) fn pool_row(month: &ClosedMonth, pool: Pool) -> PrintedLine
+    ensures { result ≡ pool_row pool (entry_of month.now.pools pool) (entry_of month.now.shown pool) }
 {
+    let close = month.pools.get(pool);
     let mut line = PrintedLine::empty();
     line.put_text(b"POOL ");
     line.put_byte(pool.letter());
@@ -71,13 +73,13 @@ pub(crate) fn pool_row(pool: Pool, close: &PoolClose, shown: u64) -> PrintedLine
     line.put_byte(b' ');
     line.put_decimal(close.payments);
     line.put_byte(b' ');
-    line.put_decimal(shown);
+    line.put_decimal(month.shown.get(pool));
     line.put_byte(b'\n');
     line
 }
 
 // A refusal: the fault's number, the letter of its layer, and the byte offset.
-pub fn refusal_row(fault: StatementFault) -> PrintedLine
+pub fn refusal_row(fault: Located<StatementFault>) -> PrintedLine
     ensures { result ≡ refusal_row fault }
 {
     let label = fault.label();

@@ -1,5 +1,7 @@
 // The smallest month files and their outputs. Longer files are run by the program `vectors`.
-use statement::job::{NoStatement, settle_file};
+use statement::job::settle_file;
+use statement::no_statement::NoStatement;
+use statement::rows::refusal_row;
 use std::process::Abort;
 use std::test::Fail;
 
@@ -17,7 +19,10 @@ fn gives(
 ) -> Result<(), Fail> {
     match settle_file(rt.alloc(), file) {
         Ok(statement) => assert!(rt; expected == Ok(statement.as_slice())),
-        Err(NoStatement::Refused(line)) => assert!(rt; expected == Err(line.written())),
+        Err(NoStatement::Refused(told)) => assert!(rt;
+            expected == Err(refusal_row(told).written())
+        ),
+        // Handed on here, since a refusal is one of the outcomes expected.
         Err(error) => return Err(error.into()),
     }
     Ok(())

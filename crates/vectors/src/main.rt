@@ -3,11 +3,12 @@
 #![tactic(auto)]
 
 use anyhow::anyhow;
-use statement::job::{NoStatement, settle_file};
+use statement::job::settle_file;
+use statement::no_statement::NoStatement;
 use std::fs;
 
 // How many files were run, and how many of them came out as expected.
-#[derive(Clone, Copy)]
+#[derive(Clone, Copy, PartialEq, Eq, Debug)]
 struct Tally {
     run: u64,
     expected: u64,
@@ -17,11 +18,7 @@ impl Tally {
     fn with(self, agrees: bool) -> Tally {
         Tally {
             run: self.run.saturating_add(1),
-            expected: if agrees {
-                self.expected.saturating_add(1)
-            } else {
-                self.expected
-            },
+            expected: self.expected.saturating_add(u64::from(agrees)),
         }
     }
 }
@@ -29,13 +26,15 @@ impl Tally {
 fn run_file(rt: &HostRuntime, name: &str) -> anyhow::Result<bool> {
     let file = fs::read(rt, format!(in rt.alloc(); "{name}.month")?)?;
     let expected = fs::read(rt, format!(in rt.alloc(); "{name}.statement")?)?;
-    let answer = settle_file(rt.alloc(), file.as_slice());
-    let (outcome, output) = match &answer {
-        Ok(statement) => ("settled", statement.as_slice()),
-        Err(NoStatement::Refused(line)) => ("refused", line.written()),
-        Err(NoStatement::OutOfMemory) => return Err(NoStatement::OutOfMemory.into()),
+    let (outcome, output) = match settle_file(rt.alloc(), file.as_slice()) {
+        Ok(statement) => ("settled", statement),
+        Err(refusal @ NoStatement::Refused(_)) => {
+            ("refused", format!(in rt.alloc(); "{refusal}")?.into_bytes())
+        }
+        // Handed on here, since a refusal is an output too and not every error ends the run.
+        Err(error) => return Err(error.into()),
     };
-    let agrees = output == expected.as_slice();
+    let agrees = output == expected;
     let verdict = if agrees { "as expected" } else { "DIFFERS" };
     let bytes = output.len();
     println!(rt; "{name}: {outcome}, {bytes} bytes, {verdict}")?;

@@ -5,14 +5,16 @@ ghost use Rattle.fund.specs.Faults.{label, labelled};
 ghost use Rattle.fund.specs.Postings.{posted, balance};
 ghost use Rattle.fund.specs.Pages.{Fit, Pages, PagesSound, blank_pages, posting, with_posting, with_brought};
 ghost use Rattle.fund.specs.Journal.{pages_of, journal_book};
-ghost use Rattle.fund.specs.JournalLemmas.{journal_lawful, balance_le};
+ghost use Rattle.fund.specs.JournalLemmas.{journal_lawful};
 
-use crate::book::{FundBook, LIMIT};
+use crate::balance::Balance;
+use crate::book::FundBook;
 use crate::fault::BookFault;
 use crate::journal::{Journal, RefusedPlaces};
 use crate::posting::{Direction, Posting, Side};
 use crate::standing::Standing;
 use crate::total::total;
+use pools::per_pool::PerPool;
 use pools::pool::Pool;
 
 const FEWEST: usize = 8;
@@ -49,6 +51,8 @@ impl Journal {
     }
 
     // What the postings of one direction in the pool come to.
+    // Direction and pool apart, here and below: a `Side` made at each of five calls would be no plainer.
+    #[tactic(auto, unfolding(crate::specs::Postings::posted))]
     fn posted(&self, direction: Direction, pool: Pool) -> u128
         ensures { result ≡ posted direction pool (pages_of self.now).postings }
     {
@@ -56,12 +60,12 @@ impl Journal {
     }
 
     // What came into the pool less what went out of it.
-    fn balance(&self, pool: Pool) -> u64
-        ensures value { result ≡ balance (pages_of self.now).postings pool }
-        ensures within { result ≤ limit }
+    fn balance(&self, pool: Pool) -> Balance
+        ensures { result.cents ≡ balance (pages_of self.now).postings pool }
     {
+        let cents = self.posted(Direction::In, pool) - self.posted(Direction::Out, pool);
         // `as` narrows what is proved to be within the limit.
-        (self.posted(Direction::In, pool) - self.posted(Direction::Out, pool)) as u64
+        Balance::new(cents as u64)
     }
 
     // Writes a posting into the first free place.
@@ -70,8 +74,7 @@ impl Journal {
         ensures { pages_of self.new ≡ with_posting (pages_of self.old) (posting direction pool amount) }
     {
         self.postings.push_reserved(Posting {
-            pool,
-            direction,
+            side: Side { pool, direction },
             amount,
         });
     }
@@ -100,18 +103,12 @@ impl FundBook for Journal {
 
     ghost real = { λ b. b.sound };
 
-    ghost sized = { λ b. b.sound.sized.0 };
-
-    ghost shown_within = { λ b. balance_le b.sound };
-
-    ghost binding_within = { λ b. balance_le b.sound };
-
     fn binding(&self, pool: Pool) -> u64 {
-        self.balance(pool)
+        self.balance(pool).cents()
     }
 
     fn shown(&self, pool: Pool) -> u64 {
-        self.balance(pool)
+        self.binding(pool)
     }
 
     fn standing(&self) -> Standing {
@@ -138,9 +135,8 @@ impl FundBook for Journal {
         if self.free_places() == 0 {
             return Err(BookFault::NoFreePlace(pool));
         }
-        if amount > LIMIT - self.balance(pool) {
-            return Err(BookFault::OverLimit(pool));
-        }
+        // The balance, posted to on trial, says whether the limit allows it.
+        self.balance(pool).post_in(pool, amount)?;
         self.write(Direction::In, pool, amount);
         Ok(())
     }
@@ -149,18 +145,16 @@ impl FundBook for Journal {
         if self.free_places() == 0 {
             return Err(BookFault::NoFreePlace(pool));
         }
-        if amount > self.balance(pool) {
-            return Err(BookFault::AboveBalance(pool));
-        }
+        self.balance(pool).post_out(pool, amount)?;
         self.write(Direction::Out, pool, amount);
         Ok(())
     }
 
     fn rule_off(&mut self) {
-        let generic = self.balance(Pool::Generic);
-        let flexible = self.balance(Pool::Flexible);
+        let balances = PerPool::of(|pool| self.binding(pool));
         self.postings.clear();
-        self.bring_forward(Pool::Generic, generic);
-        self.bring_forward(Pool::Flexible, flexible);
+        for pool in Pool::ALL {
+            self.bring_forward(pool, balances.get(pool));
+        }
     }
 }

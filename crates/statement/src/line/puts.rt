@@ -37,6 +37,7 @@ impl PrintedLine {
         self.len = end;
     }
 
+    #[tactic(auto, using(crate::proofs::Printed::decimals))]
     fn put_digits(&mut self, n: u64)
         requires { length self.old + length (decimal n) ≤ 96 }
         ensures { self.new ≡ self.old ++ decimal n }
@@ -49,6 +50,7 @@ impl PrintedLine {
     }
 
     // The number in decimal, which takes at most 20 bytes.
+    #[tactic(auto, using(crate::proofs::Printed::decimals))]
     pub(crate) fn put_decimal(&mut self, n: u64)
         requires { length self.old + 20 ≤ 96 }
         ensures puts { self.new ≡ self.old ++ decimal n }

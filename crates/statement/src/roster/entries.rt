@@ -11,6 +11,7 @@ use settlement::fault::SettlementFault;
 use settlement::tables::RosterEntry;
 use std::alloc::{AllocError, Global};
 
+// Fewer than the 512 that a settlement takes.
 const MOST_RESOURCES: usize = 64;
 
 impl Roster {

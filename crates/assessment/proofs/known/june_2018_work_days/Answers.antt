@@ -1,13 +1,12 @@
-use Rattle.std.proofs.Common.{refl, lit≤}
+use Rattle.std.proofs.Common.{◌≡◌, ◌∙◌, ap, refl}
 use Rattle.assessment.specs.Sums.{sum_to}
+use Rattle.assessment.specs.Calendar.{work_days}
 use Rattle.assessment.specs.Days.{day_figures}
+use Rattle.assessment.specs.Known.{june_2018}
 use Rattle.assessment.proofs.known.june_2018_work_days.Goals as goal
-
-pub invariant_of-june : goal.invariant_of-june
-unfolding sum_to
-invariant_of-june c =
-    record { dated = (lit≤ tt, lit≤ tt, lit≤ tt, lit≤ tt); marks = refl; windows = ((lit≤ tt, lit≤ tt), (lit≤ tt, lit≤ tt), (lit≤ tt, lit≤ tt)); days_are = refl; first_is = refl }
 
 pub returns : goal.returns
 unfolding sum_to day_figures
-returns c = record { figures = refl; counted = c.work_days.ensures.is }
+returns c =
+    let month : c.unwrap.result.month ≡ june_2018 = rw c.unwrap.ensures at c.new.ensures in
+    record { figures = refl; counted = c.work_days.ensures.is ∙ ap work_days month }

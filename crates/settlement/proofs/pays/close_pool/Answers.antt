@@ -1,7 +1,12 @@
-use Rattle.std.proofs.Common.{arith}
-use Rattle.settlement.proofs.Paying.{paid_within}
+use Rattle.std.proofs.Common.{◌≡◌, map, ap, ◌∙◌, arith}
+use Rattle.settlement.specs.Closing.{paid_entry, told, close_rate}
+use Rattle.settlement.specs.declared.amounts.LineAmount.TheVariants.{Payments}
+use Rattle.settlement.proofs.Rates.{payments_within}
 use Rattle.settlement.proofs.pays.close_pool.Goals as goal
 
 pub overflow_cast-payments : goal.overflow_cast-payments
 overflow_cast-payments c =
-    omega (arith, paid_within c.args.price.cents c.args.shown c.total-charges.result c.total-quantity.result c.rate_for-rate.result.cents c.total-payments.result c.args.entries.now _ c.total-charges.ensures c.total-quantity.ensures c.rate_for-rate.ensures c.pay.ensures c.total-payments.ensures)
+    let es = c.args.entries.now in
+    let rate : c.rate_for-rate.result.cents ≡ close_rate c.args.price.cents c.args.shown es = c.rate_for-rate.ensures ∙ rw (c.total-charges.ensures, c.total-quantity.ensures) in
+    let paid = c.total-payments.ensures ∙ ap (told Payments) (c.pay.ensures ∙ ap (λ n. map (paid_entry n) es) rate) in
+    omega (arith, paid, payments_within c.args.price.cents c.args.shown es, c.total-charges.ensures)

@@ -1,6 +1,10 @@
-use Rattle.std.proofs.Common.{◌≡◌, ◌++◌, map, take, drop}
-use Rattle.settlement.specs.Closing.{paid_entry}
+use Rattle.std.proofs.Common.{◌≡◌, ℕ, ◌<◌, ◌≤◌, get_or}
+use Rattle.settlement.specs.Closing.{paid_entry, no_line}
 use Rattle.settlement.proofs.pays.pay.Given as goal
 
 abbrev pub invariant-loop-i : goal.invariant-loop-i
-invariant-loop-i l = l.entries ≡ map (paid_entry l.rate.cents) (take l.i l.initial.entries) ++ drop l.i l.initial.entries
+invariant-loop-i l =
+    record {
+      done : (k : ℕ) → k < l.i → get_or l.entries k no_line ≡ paid_entry l.rate.cents (get_or l.initial.entries k no_line);
+      rest : (k : ℕ) → l.i ≤ k → get_or l.entries k no_line ≡ get_or l.initial.entries k no_line;
+    }

@@ -1,69 +1,58 @@
-use Rattle.std.proofs.Common.{◌≡◌, ◌+◌, length, Ok, Err, sym, ap, ◌∙◌, arith}
+use Rattle.std.proofs.Common.{◌≡◌, ◌+◌, ◌-◌, length, take, drop, Ok, sym, ap, ◌∙◌, arith}
 use Rattle.std.proofs.lemmas.Result.{err_from_is_err_and, IfOk-at_ok}
-use Rattle.settlement.specs.declared.fault.SettlementFault.{SettlementFault}
 use Rattle.statement.specs.Layout.{record_of}
 use Rattle.statement.specs.Reading.{as_resource}
-use Rattle.statement.specs.Rosters.{days_offset}
-use Rattle.statement.specs.declared.fault.Located.{Located}
-use Rattle.statement.specs.declared.fault.StatementFault.TheVariants.{Settlement}
-use Rattle.statement.proofs.Enrolled.{enrolled_length}
-use Rattle.statement.proofs.Parsed.{as_read, placed_ok, placed_err, leaves_ok, leaves_err, take_rest_length}
+use Rattle.statement.proofs.Answering.{placed_ok, placed_err, leaves_ok, leaves_err}
+use Rattle.statement.proofs.Parsed.{take_rest_length}
 use Rattle.statement.proofs.Rostering.{roster_end, roster_reader, roster_days, roster_refused, roster_more}
 use Rattle.statement.proofs.month.read_roster.Goals as goal
-use Rattle.statement.proofs.month.read_roster.Goals.{else-loop-at-test, then-loop-at-test+in_ok-entry+in_default, then-loop-at-test+in_ok-entry+in-Some+in_ok-at_offset+else-at-end-at-gt16}
+use Rattle.statement.proofs.month.read_roster.Goals.{After-roster_record, else-loop-at-test, then-loop-at-test+in_ok-entry+in-Some+in_ok-at_offset-in-Some+else-at-end-at-gt16}
+
+-- the record that stands here
+read : (c : After-roster_record) → c.roster_record.result ≡ as_resource (length c.loop-at.roster) (record_of (take (length c.args.file.now - c.loop-at.at) (drop c.loop-at.at c.args.file.now)))
+read c = rw c.entries-number.ensures.value at c.roster_record.ensures.value
 
 pub returns-in_err-entry-clause-value : goal.returns-in_err-entry-clause-value
 returns-in_err-entry-clause-value c =
     let p = err_from_is_err_and c.from_residual-in_err-entry.result c.from_residual-in_err-entry.ensures.1 in
-    let bs = c.args.file.now in
-    let roster = c.loop-at.roster in
-    let v = as_read (λ xs. as_resource (length roster) (record_of xs)) bs c.loop-at.at c.roster_record.result (rw c.entries-number.ensures.value at c.roster_record.ensures.value) in
-    rw (p.1, p.2.1, p.2.2) (c.loop-at.invariant.same ∙ roster_reader roster bs c.loop-at.at c.roster_record.result _ (omega arith) v (sym c.at_offset.ensures ∙ c.in_err-entry.was))
+    let is = read (goal.at.returns-in_err-entry-clause-value c).After-roster_record in
+    let q = placed_err c.roster_record.result c.loop-at.at _ (sym c.at_offset.ensures ∙ c.in_err-entry.was) in
+    rw (p.1, p.2.1, p.2.2, q.2) (c.loop-at.invariant.same ∙ roster_reader c.loop-at.roster c.args.file.now c.loop-at.at c.roster_record.result (omega arith) is q.0 q.1)
+
+pub returns-in_err-at_offset-in-Some-clause-value : goal.returns-in_err-at_offset-in-Some-clause-value
+returns-in_err-at_offset-in-Some-clause-value c =
+    let p = err_from_is_err_and c.from_residual-in_err-at_offset-in-Some.result c.from_residual-in_err-at_offset-in-Some.ensures.1 in
+    let is = read (goal.at.returns-in_err-at_offset-in-Some-clause-value c).After-roster_record in
+    let o = placed_ok c.roster_record.result c.loop-at.at _ (sym c.at_offset.ensures ∙ c.in_ok-entry.was) ∙ ap Ok c.in-Some.is in
+    let q = placed_err c.push.result c.loop-at.at _ (sym c.at_offset-in-Some.ensures ∙ c.in_err-at_offset-in-Some.was) in
+    rw (p.1, p.2.1, p.2.2, q.2) (c.loop-at.invariant.same ∙ roster_refused c.loop-at.roster c.args.file.now c.loop-at.at c.roster_record.result (omega arith) is c.in-Some.entry q.0 o (leaves_err c.push.result _ _ q.0 q.1 c.push.ensures))
+
+pub returns-in-None-clause-value : goal.returns-in-None-clause-value
+returns-in-None-clause-value c =
+    let is = read (goal.at.returns-in-None-clause-value c).After-roster_record in
+    let o = placed_ok c.roster_record.result c.loop-at.at _ (sym c.at_offset.ensures ∙ c.in_ok-entry.was) ∙ ap Ok c.in-None.is in
+    rw (← c.loop-at.invariant.place) (c.loop-at.invariant.same ∙ roster_days c.loop-at.roster c.args.file.now c.loop-at.at c.roster_record.result (omega arith) is o)
 
 pub loop-at-preserved : goal.loop-at-preserved
 loop-at-preserved c =
-    let bs = c.args.file.now in
-    let roster = c.loop-at.roster in
-    let v = as_read (λ xs. as_resource (length roster) (record_of xs)) bs c.loop-at.at c.roster_record.result (rw c.entries-number.ensures.value at c.roster_record.ensures.value) in
+    let is = read (goal.at.loop-at-preserved c).After-roster_record in
     let o = placed_ok c.roster_record.result c.loop-at.at _ (sym c.at_offset.ensures ∙ c.in_ok-entry.was) ∙ ap Ok c.in-Some.is in
-    let q = placed_ok c.push.result c.loop-at.at _ (sym c.at_offset-in-loop-at.ensures ∙ c.in_ok-at_offset.was) in
-    let e = leaves_ok c.push.result _ _ _ q c.push.ensures in
-    let n : days_offset c.push.new.self ≡ c.loop-at.at + 16 = omega (arith, c.loop-at.invariant.place, enrolled_length roster c.push.new.self c.in-Some.entry e) in
+    let q = placed_ok c.push.result c.loop-at.at _ (sym c.at_offset-in-Some.ensures ∙ c.in_ok-at_offset-in-Some.was) in
+    let n = roster_more c.loop-at.roster c.args.file.now c.loop-at.at c.roster_record.result (omega arith) is c.in-Some.entry c.push.new.self o (leaves_ok c.push.result _ _ _ q c.push.ensures) c.loop-at.invariant.place in
     let w = IfOk-at_ok _ o c.roster_record.ensures.within in
     record {
-      place = sym n;
-      within = omega (arith, w, take_rest_length bs c.loop-at.at);
-      same = c.loop-at.invariant.same ∙ roster_more roster bs c.loop-at.at c.roster_record.result c.in-Some.entry c.push.new.self (omega arith) v o e;
+      place = n.0;
+      within = omega (arith, n.0, w, take_rest_length c.args.file.now c.loop-at.at);
+      same = c.loop-at.invariant.same ∙ n.1;
     }
-
-pub returns-in_err-at_offset-clause-value : goal.returns-in_err-at_offset-clause-value
-returns-in_err-at_offset-clause-value c =
-    let p = err_from_is_err_and c.from_residual-in_err-at_offset.result c.from_residual-in_err-at_offset.ensures.1 in
-    let bs = c.args.file.now in
-    let roster = c.loop-at.roster in
-    let v = as_read (λ xs. as_resource (length roster) (record_of xs)) bs c.loop-at.at c.roster_record.result (rw c.entries-number.ensures.value at c.roster_record.ensures.value) in
-    let o = placed_ok c.roster_record.result c.loop-at.at _ (sym c.at_offset.ensures ∙ c.in_ok-entry.was) ∙ ap Ok c.in-Some.is in
-    let q = placed_err c.push.result c.loop-at.at _ (sym c.at_offset-in-loop-at.ensures ∙ c.in_err-at_offset.was) in
-    rw (p.1, p.2.1, p.2.2) (c.loop-at.invariant.same ∙ roster_refused roster bs c.loop-at.at c.roster_record.result c.in-Some.entry q.0 (omega arith) v o (leaves_err c.push.result _ _ q.0 q.1 c.push.ensures)
-    ∙ ap (λ (x : Located SettlementFault). Err (Settlement x)) (sym q.2))
 
 pub returns-clause-value : goal.returns-clause-value
 returns-clause-value c =
-    let bs = c.args.file.now in
-    let roster = c.loop-at.roster in
     elim c.loop-at-test.branch [
-      | else-loop-at-test w ↦ rw (w.roster-is, ← c.loop-at.invariant.place) (c.loop-at.invariant.same ∙ roster_end roster bs c.loop-at.at (omega arith))
-      | then-loop-at-test+in_ok-entry+in_default w ↦
-          let v = as_read (λ xs. as_resource (length roster) (record_of xs)) bs c.loop-at.at w.roster_record.result (rw w.entries-number.ensures.value at w.roster_record.ensures.value) in
-          let o = placed_ok w.roster_record.result c.loop-at.at _ (sym w.at_offset.ensures ∙ w.in_ok-entry.was) in
-          rw (w.roster-is, ← c.loop-at.invariant.place) (c.loop-at.invariant.same ∙ roster_days roster bs c.loop-at.at w.roster_record.result (omega arith) v (o ∙ ap Ok w.in_default.is))
-      | then-loop-at-test+in_ok-entry+in-Some+in_ok-at_offset+else-at-end-at-gt16 w ↦
-          let v = as_read (λ xs. as_resource (length roster) (record_of xs)) bs c.loop-at.at w.roster_record.result (rw w.entries-number.ensures.value at w.roster_record.ensures.value) in
+      | else-loop-at-test w ↦ rw (w.roster-is, ← c.loop-at.invariant.place) (c.loop-at.invariant.same ∙ roster_end c.loop-at.roster c.args.file.now c.loop-at.at (omega arith))
+      | then-loop-at-test+in_ok-entry+in-Some+in_ok-at_offset-in-Some+else-at-end-at-gt16 w ↦
           let o = placed_ok w.roster_record.result c.loop-at.at _ (sym w.at_offset.ensures ∙ w.in_ok-entry.was) ∙ ap Ok w.in-Some.is in
-          let q = placed_ok w.push.result c.loop-at.at _ (sym w.at_offset-in-loop-at.ensures ∙ w.in_ok-at_offset.was) in
-          let e = leaves_ok w.push.result _ _ _ q w.push.ensures in
-          let n : days_offset w.push.new.self ≡ c.loop-at.at + 16 = omega (arith, c.loop-at.invariant.place, enrolled_length roster w.push.new.self w.in-Some.entry e) in
-          rw (w.roster-is, n)
-          (c.loop-at.invariant.same ∙ roster_more roster bs c.loop-at.at w.roster_record.result w.in-Some.entry w.push.new.self (omega arith) v o e
-          ∙ roster_end w.push.new.self bs (c.loop-at.at + 16) (omega arith))
+          let q = placed_ok w.push.result c.loop-at.at _ (sym w.at_offset-in-Some.ensures ∙ w.in_ok-at_offset-in-Some.was) in
+          let n = roster_more c.loop-at.roster c.args.file.now c.loop-at.at w.roster_record.result (omega arith) (rw w.entries-number.ensures.value at w.roster_record.ensures.value) w.in-Some.entry w.push.new.self o (leaves_ok w.push.result _ _ _ q w.push.ensures) c.loop-at.invariant.place in
+          rw (w.roster-is, ← n.0) (c.loop-at.invariant.same ∙ n.1 ∙ roster_end w.push.new.self c.args.file.now (c.loop-at.at + 16) (omega arith))
     ]

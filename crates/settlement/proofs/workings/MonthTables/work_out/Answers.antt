@@ -1,42 +1,17 @@
-use Rattle.std.proofs.Common.{ℕ, ◌<◌, ◌≤◌, length, ap, ◌∙◌, arith, length-set, rules}
-use Rattle.assessment.specs.Figures.{MonthLines}
+use Rattle.std.proofs.Common.{refl, arith}
 use Rattle.assessment.specs.Pairs.{rules_of}
-use Rattle.pools.specs.declared.pool.Pool.{Pool}
-use Rattle.pools.specs.declared.pool.Pool.TheVariants.{Generic, Flexible}
-use Rattle.settlement.specs.Closing.{charged_entry, charged_entries, line_at}
-use Rattle.settlement.specs.declared.tables.LineEntry.{LineEntry}
-use Rattle.settlement.proofs.Working.{filled_more, filled_all}
+use Rattle.settlement.specs.Closing.{charged_entries}
+use Rattle.settlement.proofs.Working.{filled_more, filled_all, charged_small}
 use Rattle.settlement.proofs.workings.MonthTables.work_out.Goals as goal
 
-pub loop-i-preserved : goal.loop-i-preserved
-loop-i-preserved g c =
-    let tables = c.args.self.now in
-    let price = tables.month.now.price.cents in
-    let pair = rules_of g.G.AvailabilityRule.means g.F.AvailabilityRule.means c.args.rules.now in
-    let entry : Pool → ℕ → LineEntry = λ p k. charged_entry price (line_at pair tables.month.now.settings.month tables.roster.now tables.rows.now p k) in
-    let inv = c.loop-i.invariant in
-    let lines = c.resource_lines-lines.ensures.is in
-    let lt : c.loop-i.i < length c.loop-i.generic = omega arith in
-    let lt' : c.loop-i.i < length c.loop-i.flexible = omega arith in
-    let first = c.charged.ensures ∙ ap (λ (l : MonthLines). charged_entry price l.generic) lines in
-    let second = c.charged-in-loop-i.ensures ∙ ap (λ (l : MonthLines). charged_entry price l.flexible) lines in
-    record {
-      generic_long = length-set c.loop-i.generic c.loop-i.i _ ∙ inv.generic_long;
-      flexible_long = length-set c.loop-i.flexible c.loop-i.i _ ∙ inv.flexible_long;
-      generic_filled = filled_more (entry Generic) c.loop-i.generic c.loop-i.i _ lt first inv.generic_filled;
-      flexible_filled = filled_more (entry Flexible) c.loop-i.flexible c.loop-i.i _ lt' second inv.flexible_filled;
-    }
+pub loop-pool-preserved : goal.loop-pool-preserved
+loop-pool-preserved g c =
+    filled_more _ c.loop-pool.entries c.loop-i.i c.loop-pool.pool-index _ _ _ c.loop-pool-test.true (omega arith) c.loop-pool.invariant c.entry.ensures.value (rw (c.charged.ensures, c.get.ensures, c.resource_lines-lines.ensures.is) refl)
 
 pub returns : goal.returns
 unfolding charged_entries
 returns g c =
-    let tables = c.args.self.now in
-    let pair = rules_of g.G.AvailabilityRule.means g.F.AvailabilityRule.means c.args.rules.now in
-    let entry : Pool → ℕ → LineEntry = λ p k. charged_entry tables.month.now.price.cents (line_at pair tables.month.now.settings.month tables.roster.now tables.rows.now p k) in
-    let inv = c.loop-i.invariant in
-    let n = length tables.roster.now in
-    let done : n ≤ c.loop-i.i = search rules in
-    record {
-      generic = filled_all (entry Generic) c.loop-i.generic n c.loop-i.i inv.generic_long done inv.generic_filled;
-      flexible = filled_all (entry Flexible) c.loop-i.flexible n c.loop-i.i inv.flexible_long done inv.flexible_filled;
-    }
+    let t = c.args.self.now in
+    let r = rules_of g.G.AvailabilityRule.means g.F.AvailabilityRule.means c.args.rules.now in
+    let is = filled_all _ c.loop-i.entries _ c.loop-i.i (omega arith) c.loop-i-test.false c.loop-i.invariant in
+    record { is = is; small = λ p. charged_small r t.month.now.settings.month t.month.now.price.cents t.roster.now t.rows.now p _ t.fit t.within (is p) }

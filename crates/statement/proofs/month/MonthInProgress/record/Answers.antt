@@ -2,7 +2,6 @@ use Rattle.std.proofs.Common.{◌≡◌, List, length, sym, ap, ◌∙◌, subst
 use Rattle.std.proofs.lemmas.List.{with_items_is}
 use Rattle.assessment.specs.Figures.{DayRow}
 use Rattle.statement.specs.Open.{OpenedBy}
-use Rattle.statement.proofs.Parsed.{leaves_map}
 use Rattle.statement.proofs.Recorded.{recorded_is, rows_stay}
 use Rattle.statement.proofs.Wholes.{open_phase}
 use Rattle.statement.proofs.month.MonthInProgress.record.Goals as goal
@@ -23,4 +22,4 @@ returns-clause-value c =
     let does = rw (c.entries.ensures.value, c.deref_mut.ensures.value, open_phase c.self.inside.terms _ c.self.invariant.opened) at c.record.ensures.does in
     let is = recorded_is c.self.inside.terms c.self.inside.roster c.self.inside.rows.items c.record.new.rows c.args.day.now c.record.result c.self.invariant.fit does in
     let l : length c.record.new.rows ≡ c.self.inside.rows.len = c.record.auto.rows ∙ c.deref_mut.ensures.len in
-    rw (← c.self.view_is, with_items_is c.self.inside.rows c.record.new.rows l) (leaves_map _ c.record.result c.map.result _ _ c.map.ensures.cases is)
+    rw (← c.self.view_is, with_items_is c.self.inside.rows c.record.new.rows l) is

@@ -1,21 +1,24 @@
-use Rattle.std.proofs.Common.{◌≡◌, ℕ, List, [], sym, ap, ◌∙◌, subst, arith}
-use Rattle.fund.specs.Pages.{Pages, PagesSound, pages, pages_from, with_brought}
+use Rattle.std.proofs.Common.{◌≡◌, ◌≤◌, ◌<◌, ℕ, zero, suc, [], ◌∷◌, slice_index_or, arith, rules}
+use Rattle.fund.specs.Balances.{limit}
+use Rattle.fund.specs.Pages.{Fit, Pages, PagesSound, pages, with_brought}
 use Rattle.fund.specs.JournalLemmas.{blank_sound, brings_first, from_sound}
+use Rattle.pools.specs.declared.pool.Pool.{Pool}
 use Rattle.pools.specs.declared.pool.Pool.TheVariants.{Generic, Flexible}
-use Rattle.fund.specs.declared.posting.Posting.{Posting}
+use Rattle.pools.specs.declared.per_pool.PerPool.{PerPool}
+use Rattle.pools.specs.PerPool.{entry_of}
+use Rattle.fund.proofs.journal.books.JournalFundBook.rule_off.Invariants.{forward_to}
 use Rattle.fund.proofs.journal.books.JournalFundBook.rule_off.Goals as goal
 
 pub invariant_of-self : goal.invariant_of-self
-invariant_of-self c = let j = c.args.self.now in record { sound = rw c.clear.ensures.items (blank_sound j.size j.sound.sized); roomy = omega arith }
+invariant_of-self c = let j = c.args.self.now in record { sound = blank_sound _ _ c.clear.ensures.items j.sound.sized; roomy = omega arith }
+
+-- the next pool's balance, brought forward too
+next : (b : PerPool ℕ) (n i a : ℕ) (s : Pages) → s ≡ pages (forward_to b i) n → a ≡ entry_of b (slice_index_or (Generic ∷ Flexible ∷ []) i Generic) → Fit n → ((q : Pool) → entry_of b q ≤ limit) → i < 2 → PagesSound (with_brought s (slice_index_or (Generic ∷ Flexible ∷ []) i Generic) a)
+next b n zero a s e w h few lt = rw (e, w) (brings_first n b.generic h (few Generic))
+next b n (suc zero) a s e w h few lt = rw (e, w) (from_sound n (entry_of b) h few)
+next b n (suc (suc i)) a s e w h few lt = absurd (omega arith)
 
 pub bring_forward-requires : goal.bring_forward-requires
-bring_forward-requires c = let j = c.args.self.now in rw c.clear.ensures.items (brings_first j.size _ j.sound.sized c.balance-generic.ensures.within)
-
--- with the generic balance brought forward
-first : (xs : List Posting) (n g f : ℕ) (s : Pages) → xs ≡ [] → s ≡ with_brought (pages xs n) Generic g → PagesSound (pages_from n g f) → PagesSound (with_brought s Flexible f)
-first xs n g f s e h k = subst (λ (t : Pages). PagesSound (with_brought t Flexible f)) (sym (h ∙ ap (λ (ys : List Posting). with_brought (pages ys n) Generic g) e)) k
-
-pub bring_forward-requires-2 : goal.bring_forward-requires-2
-bring_forward-requires-2 c =
+bring_forward-requires c =
     let j = c.args.self.now in
-    first _ j.size _ _ _ c.clear.ensures.items c.bring_forward.ensures (from_sound j.size _ _ j.sound.sized c.balance-generic.ensures.within (omega arith))
+    next c.of-balances.result j.size c.loop-pool.pool-index _ _ c.loop-pool.invariant c.get.ensures j.sound.sized (λ q. elim q [ Generic ↦ search rules | Flexible ↦ search rules ]) c.loop-pool-test.true

@@ -6,7 +6,7 @@ use Rattle.assessment.specs.Calendar.{days_in}
 use Rattle.assessment.specs.Sums.{sum_to}
 use Rattle.assessment.proofs.LineLaws.{days_few}
 use Rattle.assessment.proofs.Running.{sum_none, sum_listed}
-use Rattle.assessment.proofs.calendar.days_before_month.Goals as goal
+use Rattle.assessment.proofs.month_date.MonthDate.days_before.Goals as goal
 
 -- the months from January on, listed
 listed : (y n : ℕ) → sum_by (days_in y) (range_with_len 1 n) ≡ sum_to (days_in y) n
@@ -19,15 +19,15 @@ few y (suc n) = omega (arith, few y n, days_few y (n + 1))
 
 pub sum-requires-clause-fits : goal.sum-requires-clause-fits
 sum-requires-clause-fits c =
-    let year = c.args.year in
-    let n = c.args.month - 1 in
-    fits_by_from_yields_list (days_in year) (range_with_len 1 n) _ _ (YieldsList-from_map _ (days_in year) (YieldsList-from_range 1 c.args.month n (cc) refl) c.map.ensures.closure (λ x r q k. search rules)) (omega (arith, listed year n, few year n))
+    let year = c.args.self.year in
+    let n = c.args.self.month - 1 in
+    fits_by_from_yields_list (days_in year) (range_with_len 1 n) _ _ (YieldsList-from_map _ (days_in year) (YieldsList-from_range 1 c.args.self.month n (cc) refl) c.map.ensures.closure (λ x r q k. search rules)) (omega (arith, listed year n, few year n))
 
 pub returns-clause-is : goal.returns-clause-is
 returns-clause-is c =
-    let year = c.args.year in
-    let n = c.args.month - 1 in
-    sum_by_from_yields_List (days_in year) (range_with_len 1 n) _ _ c.sum.ensures.ran (YieldsList-from_map _ (days_in year) (YieldsList-from_range 1 c.args.month n (cc) refl) c.map.ensures.closure (λ x r q k. search rules)) ∙ listed year n
+    let year = c.args.self.year in
+    let n = c.args.self.month - 1 in
+    sum_by_from_yields_List (days_in year) (range_with_len 1 n) _ _ c.sum.ensures.ran (YieldsList-from_map _ (days_in year) (YieldsList-from_range 1 c.args.self.month n (cc) refl) c.map.ensures.closure (λ x r q k. search rules)) ∙ listed year n
 
 pub returns-clause-few : goal.returns-clause-few
-returns-clause-few c = omega (arith, returns-clause-is c, few c.args.year (c.args.month - 1))
+returns-clause-few c = omega (arith, returns-clause-is c, few c.args.self.year (c.args.self.month - 1))

@@ -1,0 +1,51 @@
+-- Answers that are taken or refused, one after another.
+use Rattle.std.proofs.Common.{◌≡◌, ℕ, Bool, true, false, Ok, Err, Result, rules}
+use Rattle.statement.specs.Answers.{require, and_then, Leaves, AnswersInMemory}
+use Rattle.statement.specs.Located.{placed}
+use Rattle.statement.specs.declared.fault.Located.{Located}
+use Rattle.statement.specs.declared.fault.StatementFault.{StatementFault}
+use Rattle.statement.specs.declared.no_statement.NoStatement.{NoStatement}
+
+-- a test that is met, or not
+pub met : {A E : Type 0} (b : Bool) (e : E) (r : Result A E) → b ≡ true → require b e r ≡ r
+met b e r h = rw h
+
+pub unmet : {A E : Type 0} (b : Bool) (e : E) (r : Result A E) → b ≡ false → require b e r ≡ Err e
+unmet b e r h = rw h
+
+-- an answer that is taken came of taken parts
+pub required : {A E : Type 0} (b : Bool) (e : E) (r : Result A E) (x : A) → require b e r ≡ Ok x → (b ≡ true) × (r ≡ Ok x)
+required b e r x h = search rules
+
+pub parts : {A B E : Type 0} (r : Result A E) (f : A → Result B E) (y : B) → and_then r f ≡ Ok y → (x : A) × ((r ≡ Ok x) × (f x ≡ Ok y))
+parts r f y h = search rules
+
+pub same_ok : {A E : Type 0} (x y : A) → ◌≡◌ {A = Result A E} (Ok x) (Ok y) → x ≡ y
+same_ok x y h = cc
+
+-- an answer placed at an offset
+pub placed_err : {T F : Type 0} (r : Result T F) (n : ℕ) (l : Located F) → placed r n ≡ Err l → (f : F) × (r ≡ Err f) × (l ≡ record { fault = f; offset = n })
+placed_err r n l h = search rules
+
+pub placed_ok : {T F : Type 0} (r : Result T F) (n : ℕ) (x : T) → placed r n ≡ Ok x → r ≡ Ok x
+placed_ok r n x h = search rules
+
+-- a call that answers as defined
+pub leaves_ok : {T E V : Type 0} (r : Result T E) (v : V) (d : Result V E) (x : T) → r ≡ Ok x → Leaves r v d → d ≡ Ok v
+leaves_ok r v d x h l = rw h at l
+
+pub leaves_err : {T E V : Type 0} (r : Result T E) (v : V) (d : Result V E) (e : E) → r ≡ Err e → Leaves r v d → d ≡ Err e
+leaves_err r v d e h l = rw h at l
+
+-- calls that may run out of memory
+module _ {T U V W : Type 0} (see : T → V) (last : U → W) (d : Result V (Located StatementFault)) (f : V → Result W (Located StatementFault)) where
+  stops_at : (e : NoStatement) → AnswersInMemory see (Err e) d → AnswersInMemory last (Err e) (and_then d f)
+  stops_at e h = search rules
+
+  -- a step that fails ends the chain
+  pub stops : (r : Result T NoStatement) (e : NoStatement) → r ≡ Err e → AnswersInMemory see r d → AnswersInMemory last (Err e) (and_then d f)
+  stops r e h a = stops_at e (rw h at a)
+
+  -- a step that is taken leaves the rest of the chain
+  pub goes_on : (r : Result T NoStatement) (x : T) (q : Result U NoStatement) → r ≡ Ok x → AnswersInMemory see r d → AnswersInMemory last q (f (see x)) → AnswersInMemory last q (and_then d f)
+  goes_on r x q h a b = let e = rw h at a in rw e b

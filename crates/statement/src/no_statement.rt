@@ -1,0 +1,52 @@
+// Why a month file has no statement.
+ghost use Rattle.std.specs.Prelude.{◌≡◌};
+ghost use Rattle.statement.specs.Refusals.{shown};
+ghost use Rattle.statement.specs.declared.no_statement.NoStatement.TheVariants.{Refused, OutOfMemory};
+
+use crate::fault::{Located, StatementFault};
+use crate::rows::refusal_row;
+use std::alloc::AllocError;
+use std::error::Error;
+use std::fmt;
+
+// The file is refused, or memory ran out.
+#[derive(Clone, Copy, PartialEq, Eq, Debug, Drop)]
+pub enum NoStatement {
+    Refused(Located<StatementFault>),
+    OutOfMemory,
+}
+
+// By hand, since its text stands in the contract: a refusal is shown as its line.
+impl fmt::Display for NoStatement {
+    ghost output = { shown };
+
+    fn fmt<W: fmt::Write>(&self, f: &mut fmt::Formatter<W>) -> fmt::Result {
+        match self {
+            NoStatement::Refused(told) => write!(f, "{}", refusal_row(*told)),
+            NoStatement::OutOfMemory => write!(f, "memory allocation failed"),
+        }
+    }
+}
+
+impl Error for NoStatement {}
+
+// The conversions are by hand too, since contracts need the case that `?` makes.
+impl<F> From<Located<F>> for NoStatement
+where
+    StatementFault: From<F>,
+{
+    ghost from_gives = { λ e r. (f : _) × (r ≡ Refused (record { fault = f; offset = e.offset })) × bound-1.from_gives e.fault f };
+
+    fn from(Located { fault, offset }: Located<F>) -> NoStatement {
+        let fault = StatementFault::from(fault);
+        NoStatement::Refused(Located { fault, offset })
+    }
+}
+
+impl From<AllocError> for NoStatement {
+    ghost from_gives = { λ _ r. r ≡ OutOfMemory };
+
+    fn from(_e: AllocError) -> NoStatement {
+        NoStatement::OutOfMemory
+    }
+}
