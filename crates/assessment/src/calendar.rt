@@ -28,6 +28,7 @@ fn windows_within(month: &TradeMonth) -> bool
 
 impl MonthSettings {
     // The settings of a month within its limits; None where one is broken.
+    // No TryFrom, as this is no mere conversion: it works out the month's calendar too.
     pub fn new(month: TradeMonth) -> Option<MonthSettings>
         ensures { MatchOption result (MonthWithin month → ⊥) (λ s. s.month ≡ month) }
     {
@@ -59,7 +60,7 @@ impl MonthSettings {
         ensures is { result ≡ work_days self.now.month }
         ensures few { result ≤ 31 }
     {
-        // `as` narrows a count of at most 31.
+        // `as` narrows a count of at most 31, so a TryFrom would have nothing to refuse.
         (1..=self.days)
             .filter(|day| self.trade_day(*day).kind == DayKind::WorkDay)
             .count() as u32

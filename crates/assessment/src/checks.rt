@@ -1,22 +1,25 @@
 // The check that turns a day submission into a day record.
-ghost use Rattle.std.specs.Prelude.{◌≡◌, MatchBool, MatchResult};
+ghost use Rattle.std.specs.Prelude.{◌≡◌, ◌≤◌, MatchBool, MatchResult};
 ghost use Rattle.assessment.specs.Records.{HourWithin, ShowingWithin, BidsWithin, ExemptionsWithin, Breaks};
 
 use crate::category::Category;
 use crate::day_record::DayRecord;
 use crate::settings::TradeDay;
-use crate::submission::{DayBreach, DaySubmission, HourBids, Showing};
+use crate::submission::{Bid, DayBreach, DaySubmission, HourBids, Showing};
 
 const MOST_KILOWATTS: u32 = 2_000_000;
 
-// The tests of an hour and of a showing read other fields: one over both would be no plainer.
+// The tests of a bid and of a showing read other fields: one over both would be no plainer.
+fn bid_within(bid: Bid) -> bool
+    ensures { MatchBool result ((bid.economic ≤ 2000000) × (bid.self_scheduled ≤ 2000000)) ((bid.economic ≤ 2000000) × (bid.self_scheduled ≤ 2000000) → ⊥) }
+{
+    bid.economic <= MOST_KILOWATTS && bid.self_scheduled <= MOST_KILOWATTS
+}
+
 fn hour_within(bids: &HourBids) -> bool
     ensures { MatchBool result (HourWithin bids.now) (HourWithin bids.now → ⊥) }
 {
-    bids.day_ahead.economic <= MOST_KILOWATTS
-        && bids.day_ahead.self_scheduled <= MOST_KILOWATTS
-        && bids.real_time.economic <= MOST_KILOWATTS
-        && bids.real_time.self_scheduled <= MOST_KILOWATTS
+    bid_within(bids.day_ahead) && bid_within(bids.real_time)
 }
 
 fn bids_within(submission: &DaySubmission) -> bool
@@ -31,6 +34,7 @@ fn showing_within(showing: &Showing) -> bool
     showing.shown <= MOST_KILOWATTS && showing.exempt <= MOST_KILOWATTS
 }
 
+// Here and below each pool by its name, as a day submission has no table by pool.
 fn exemptions_within(submission: &DaySubmission) -> bool
     ensures { MatchBool result (ExemptionsWithin submission.now) (ExemptionsWithin submission.now → ⊥) }
 {

@@ -12,7 +12,7 @@ use crate::rule::AvailabilityRule;
 use crate::rule_pair::RulePair;
 use crate::totals::PoolTotals;
 
-// Exact products first, then one division. The three after the amount pass through one call: a struct of them would be no plainer.
+// Exact products first, then one division. The three after the amount only pass on what `pool_day` was given: no struct for them.
 fn watts(amount: u64, own: PoolTotals, other: PoolTotals, largest: u64) -> u64
     requires owed { amount ≤ own.owed }
     requires shown { largest ≤ 2000000 }
@@ -42,7 +42,7 @@ fn pool_day(own: PoolTotals, other: PoolTotals, largest: u64) -> PoolFigures
     let obligation = watts(own.owed, own, other, largest);
     let day_ahead = watts(own.day_ahead, own, other, largest);
     let real_time = watts(own.real_time, own, other, largest);
-    // `as` narrows what is proved to fit.
+    // `as` narrows what is proved to fit, so a TryFrom would have nothing to refuse.
     PoolFigures {
         obligation: obligation as u32,
         availability: day_ahead.min(real_time) as u32,

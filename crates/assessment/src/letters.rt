@@ -6,6 +6,7 @@ use crate::line::LineState;
 use std::fmt;
 
 impl LineState {
+    // Beside Display, since a statement takes the letter as a byte.
     pub fn letter(self) -> u8
         ensures { result ≡ letter self }
     {

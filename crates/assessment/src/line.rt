@@ -17,7 +17,8 @@ pub struct Line {
     // The days of the month on which the pool's rule has hours.
     pub days: u32,
     pub state: LineState,
-    // Average watts short of the lower bound, or above the upper one.
+    // Average watts short of the lower bound, or above the upper one. No payload of the state: it is a
+    // column of the line table like the others, and 0 where the line is empty or neutral.
     pub quantity: u64,
 }
 

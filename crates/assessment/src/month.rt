@@ -13,18 +13,19 @@ use crate::settings::{MonthSettings, TradeDay};
 use pools::per_pool::PerPool;
 use std::ops::Add;
 
-const HOURS: u32 = 24;
+// The last hour ending of a day: a u32 as every hour ending is, where `submission::HOURS` is an array's length.
+const LAST_HOUR: u32 = 24;
 
 fn rule_has_hours<R: AvailabilityRule>(rule: &R, day: &TradeDay, category: Category) -> bool
     ensures { result ≡ has_hours (R.means rule.now) day.now.settings.month category.number day.now.day }
 {
-    (1..=HOURS).any(|hour| rule.assesses(day, category, hour))
+    (1..=LAST_HOUR).any(|hour| rule.assesses(day, category, hour))
 }
 
 fn days_assessed<R: AvailabilityRule>(rule: &R, settings: &MonthSettings, category: Category) -> u32
     ensures { result ≡ assessed_days (R.means rule.now) settings.now.month category.number }
 {
-    // `as` narrows a count of at most 31.
+    // `as` narrows a count of at most 31, so a TryFrom would have nothing to refuse.
     (1..=settings.days)
         .filter(|day| rule_has_hours(rule, &settings.trade_day(*day), category))
         .count() as u32
@@ -116,6 +117,7 @@ impl<G: AvailabilityRule, F: AvailabilityRule> RulePair<G, F> {
         let mut sums: PerPool<MonthSum> = PerPool::default();
         for row in rows {
             let day = DayResult::of_row(*row)?;
+            // No Add of PerPool: it would have to carry the precondition that each pool's sum has of its own.
             sums = PerPool::of(|pool| sums.get(pool) + day.figures.get(pool));
         }
         // By name, as each rule is of its own type.

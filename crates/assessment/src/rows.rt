@@ -21,7 +21,8 @@ impl DayResult {
         Some(self.figures)
     }
 
-    // The result in a row, nothing for an empty place; None past a day result's limits.
+    // The result in a row, zeros for an empty place; None past a day result's limits.
+    // No TryFrom, as an empty place holds no result to convert: its zeros are made here.
     pub fn of_row(row: DayRow) -> Option<DayResult>
         ensures { MatchOption result (RowWithin row → ⊥) (λ d. d.figures ≡ figures_in row) }
     {

@@ -46,13 +46,16 @@ impl Showing {
     }
 }
 
+// The hours of a day, each of them with bids.
+pub const HOURS: usize = 24;
+
 #[derive(Clone, Copy, PartialEq, Eq, Debug)]
 pub struct DaySubmission {
-    // Each pool's showing by its name: a table by pool would be no plainer beside the hours.
+    // By name, no table by pool: `larger_net` and `due_in` ask each by its name, and no code asks by a pool that it is given.
     pub generic: Showing,
     pub flexible: Showing,
     // By hour ending: the first entry is hour ending 1.
-    pub hours: [HourBids; 24],
+    pub hours: [HourBids; HOURS],
 }
 
 impl DaySubmission {

@@ -4,7 +4,7 @@ use crate::day_record::DayRecord;
 use crate::day_result::{DAY_PLACES, DayFigures, DayRow, PoolFigures};
 use crate::rule_pair::SHIPPED_RULES;
 use crate::settings::MonthSettings;
-use crate::submission::{Bid, DayBreach, DaySubmission, HourBids, Showing};
+use crate::submission::{Bid, DayBreach, DaySubmission, HOURS, HourBids, Showing};
 use crate::trade_month::TradeMonth;
 use std::test::Fail;
 
@@ -25,7 +25,7 @@ fn submission(generic: Showing, flexible: Showing, bid: Bid) -> DaySubmission {
     DaySubmission {
         generic,
         flexible,
-        hours: [HourBids::from(bid); 24],
+        hours: [HourBids::from(bid); HOURS],
     }
 }
 

@@ -39,6 +39,7 @@ impl Comparison {
 }
 
 // How many figures were compared, how many of them agree, and how many were published.
+// The tally of `vectors` counts other things: the files run, and those that came out as expected.
 #[derive(Clone, Copy, Debug, Default, PartialEq, Eq)]
 pub struct Tally {
     pub compared: u32,

@@ -1,6 +1,7 @@
 // What a resource shows and bids on a day, and the day's assessment.
-ghost use Rattle.std.specs.Prelude.{◌≡◌, MatchResult};
+ghost use Rattle.std.specs.Prelude.{◌≡◌, ◌<◌, MatchResult};
 ghost use Rattle.examples.specs.Plans.{bid_in, hours_of, submission_of, planned, DayRefused};
+ghost use Rattle.examples.specs.declared.refusal.Refusal.TheVariants.{NoSuchCategory};
 
 use crate::example::Case;
 use crate::reading::DayReading;
@@ -10,7 +11,7 @@ use assessment::day_record::DayRecord;
 use assessment::day_result::{DayFigures, DayResult};
 use assessment::rule_pair::SHIPPED_RULES;
 use assessment::settings::MonthSettings;
-use assessment::submission::{Bid, DaySubmission, HourBids, Showing};
+use assessment::submission::{Bid, DaySubmission, HOURS, HourBids, Showing};
 use std::array;
 
 // By hand, as a static table of examples calls no default.
@@ -30,10 +31,12 @@ pub enum Offer {
     Until(u32, Bid, Bid),
 }
 
-// A resource's day: its category, the kW shown in each pool by its name as in a day submission, and its bids.
+// A resource's day: its category, the kW shown in each pool, and its bids.
 #[derive(Clone, Copy, PartialEq, Eq, Debug)]
 pub struct Plan {
+    // A number, as published: `category_of` tests it.
     pub category: u32,
+    // By name, as `submission` below copies each to the field of that name, and nothing else asks for them.
     pub generic: u32,
     pub flexible: u32,
     pub offer: Offer,
@@ -50,7 +53,7 @@ impl Offer {
         }
     }
 
-    fn hours(self) -> [HourBids; 24]
+    fn hours(self) -> [HourBids; HOURS]
         ensures { result ≡ hours_of self }
     {
         // from_fn hands a usize; below 24 it fits a u32, for which there is no From.
@@ -76,6 +79,13 @@ impl Plan {
     }
 }
 
+// The category of a published number.
+pub(crate) fn category_of(number: u32) -> Result<Category, Refusal>
+    ensures { MatchResult result (λ c. c.number ≡ number) (λ e. (e ≡ NoSuchCategory) × (3 < number)) }
+{
+    Category::try_from(number).map_err(|_| Refusal::NoSuchCategory)
+}
+
 // A day of the month, and what is planned for it.
 #[derive(Clone, Copy, PartialEq, Eq, Debug)]
 pub struct PlannedDay {
@@ -89,7 +99,7 @@ impl PlannedDay {
         ensures { MatchResult result (λ d. d.figures ≡ planned settings.now.month self.now.day self.now.plan) (DayRefused settings.now.month self.now.day self.now.plan) }
     {
         let trade_day = settings.day(self.day).ok_or(Refusal::NoSuchDay)?;
-        let category = Category::try_from(self.plan.category).map_err(|_| Refusal::NoSuchCategory)?;
+        let category = category_of(self.plan.category)?;
         let submission = self.plan.submission();
         let submitted = DayRecord::new(trade_day, category, &submission)?;
         Ok(SHIPPED_RULES.assess_day(&submitted))

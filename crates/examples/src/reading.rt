@@ -1,10 +1,10 @@
 // What is read from a day's figures and from a month's lines.
-ghost use Rattle.std.specs.Prelude.{◌≡◌, ℕ, ◌+◌, MatchOption, MatchResult};
+ghost use Rattle.std.specs.Prelude.{◌≡◌, ℕ, ◌+◌, MatchResult};
 ghost use Rattle.examples.specs.Measures.{day_measure, line_measure};
 ghost use Rattle.examples.specs.declared.measure.Measure.{Measure};
 ghost use Rattle.examples.specs.declared.refusal.Refusal.{Refusal};
 ghost use Rattle.pools.specs.PerPool.{entry_of};
-ghost use Rattle.examples.specs.Readings.{millionths, TooMany, average, in_part, from_day, from_line, ShareRefused};
+ghost use Rattle.examples.specs.Readings.{millionths, average, in_part, from_day, from_line, ShareRefused};
 
 use crate::measure::Measure;
 use crate::refusal::Refusal;
@@ -67,7 +67,7 @@ pub enum DayReading {
 }
 
 // Sums over the month in watts, the share of one in the other, the days
-// assessed, and watts on average over these.
+// assessed, watts on average over these, and the line's quantity.
 #[derive(Clone, Copy, Debug, PartialEq, Eq)]
 pub enum LineReading {
     Obligation,
@@ -78,12 +78,14 @@ pub enum LineReading {
     Quantity,
 }
 
-// Availability in millionths of the obligation; None where that passes 64 bits.
-fn share(availability: u64, obligation: u64) -> Option<u64>
-    ensures { MatchOption result (TooMany availability) (λ x. x ≡ millionths availability obligation) }
+// Availability in millionths of the obligation, refused where that passes 64 bits.
+fn share(availability: u64, obligation: u64) -> Result<u64, Refusal>
+    ensures { MatchResult result (λ x. x ≡ millionths availability obligation) (ShareRefused availability) }
 {
-    let parts = availability.checked_mul(1_000_000)?;
-    Some(parts.checked_div(obligation).unwrap_or(0))
+    let parts = availability
+        .checked_mul(1_000_000)
+        .ok_or(Refusal::TooLarge)?;
+    Ok(parts.checked_div(obligation).unwrap_or(0))
 }
 
 fn average_over(watts: u64, days: u32) -> u64
@@ -131,9 +133,7 @@ impl Reading for DayReading {
         match self {
             DayReading::Obligation => Ok(watts.obligation),
             DayReading::Availability => Ok(watts.availability),
-            DayReading::Share => {
-                share(watts.availability, watts.obligation).ok_or(Refusal::TooLarge)
-            }
+            DayReading::Share => share(watts.availability, watts.obligation),
         }
     }
 
@@ -169,9 +169,7 @@ impl Reading for LineReading {
         match self {
             LineReading::Obligation => Ok(line.obligation),
             LineReading::Availability => Ok(line.availability),
-            LineReading::Share => {
-                share(line.availability, line.obligation).ok_or(Refusal::TooLarge)
-            }
+            LineReading::Share => share(line.availability, line.obligation),
             LineReading::Days => Ok(u64::from(line.days)),
             LineReading::Average => Ok(average_over(line.obligation, line.days)),
             LineReading::Quantity => Ok(line.quantity),

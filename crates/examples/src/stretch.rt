@@ -6,10 +6,9 @@ ghost use Rattle.assessment.specs.Rules.{generic_rule, flexible_rule};
 ghost use Rattle.examples.specs.Months.{covers, plan_on, row_on, rows_of, RowRefused, RowsRefused, LinesRefused};
 
 use crate::example::Case;
-use crate::plan::{Plan, PlannedDay};
+use crate::plan::{Plan, PlannedDay, category_of};
 use crate::reading::LineReading;
 use crate::refusal::Refusal;
-use assessment::category::Category;
 use assessment::day_result::{DAY_PLACES, DayRow};
 use assessment::line::MonthLines;
 use assessment::rule_pair::SHIPPED_RULES;
@@ -35,7 +34,7 @@ impl Stretch {
 // A month of a resource, given as stretches of like days.
 #[derive(Clone, Copy, PartialEq, Eq, Debug)]
 pub struct PlannedMonth {
-    // The category of the resource's lines.
+    // The category of the resource's lines: a number, as published.
     pub category: u32,
     pub stretches: &'static [Stretch],
 }
@@ -79,7 +78,7 @@ impl Case<LineReading> for PlannedMonth {
 
     // The two lines of the resource, by the two rules that ship.
     fn work(&self, settings: &MonthSettings) -> Result<MonthLines, Refusal> {
-        let category = Category::try_from(self.category).map_err(|_| Refusal::NoSuchCategory)?;
+        let category = category_of(self.category)?;
         let rows = self.rows(settings)?;
         let lines = SHIPPED_RULES.month_lines(settings, category, &rows);
         lines.ok_or(Refusal::RowsPastLimits)

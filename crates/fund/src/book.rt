@@ -12,6 +12,7 @@ use pools::pool::Pool;
 pub const LIMIT: u64 = 7_000_000_000_000;
 
 // Books have no comparison and no Debug: nothing compares or prints a whole book.
+// No bodies here: two books have four of them alike, but of any book such a body could not be proved.
 pub trait FundBook {
     // The states of this kind of book, and what they mean.
     ghost State: { Type 0 };
@@ -49,6 +50,7 @@ pub trait FundBook {
 
     // Posts an amount into the pool, or takes one out: a refusal leaves the book as it was.
     // Two calls, as they differ in what they test, in their fault and in their direction.
+    // Pool and amount apart: the rules name these two of each posting, and a struct of them would be made only to be taken apart.
     fn post_in(&mut self, pool: Pool, amount: u64) -> Result<(), BookFault>
         ensures { MatchResult result (λ _. Taken means (state self.old) (state self.new) (posts_in pool amount)) (λ e. Refuses means (state self.old) (posts_in pool amount) e × (self.new ≡ self.old)) };
 

@@ -8,6 +8,11 @@ use thiserror::Error;
 
 pub mod books;
 
+// How many places a journal can be kept in.
+pub const FEWEST_PLACES: usize = 8;
+
+pub const MOST_PLACES: usize = 65_536;
+
 // The postings lie in the places handed in: `size` of them, so that writing one never needs memory.
 // The size is kept, as a Vec may have room for more.
 #[derive(Drop)]

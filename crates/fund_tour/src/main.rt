@@ -38,7 +38,8 @@ const PAYMENTS: PerPool<u64> = PerPool {
     flexible: 200,
 };
 
-// Prints what a call answered.
+// Prints what a call answered. Here and below no code is shared with the ledger, which prints the faults and
+// balances of a settlement: a tour stands on `fund` alone.
 fn print_answer(
     rt: &HostRuntime,
     call: impl Display + Drop,

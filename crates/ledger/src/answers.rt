@@ -75,12 +75,16 @@ pub(crate) fn released(rt: &HostRuntime, loads: &[LoadEntry]) -> io::Result<()> 
     taken(rt)?;
     // The index is printed.
     for (index, entry) in loads.iter().enumerate() {
-        println!(rt; "SHARE {index} {} {}", entry.generic, entry.flexible)?;
+        println!(rt;
+            "SHARE {index} {} {}",
+            entry.shares.generic, entry.shares.flexible
+        )?;
     }
     Ok(())
 }
 
 // What the lookups tell of the fund.
+// Not shared with fund_tour, which prints this line too: that stands on fund alone, and not on settlement.
 pub(crate) fn fund<B: FundBook, G: AvailabilityRule, F: AvailabilityRule>(
     rt: &HostRuntime,
     settlement: &Settlement<B, G, F>,

@@ -1,6 +1,7 @@
 // The book that a script starts with.
 use crate::line_fault::LineFault;
 use crate::numbers::wide_number;
+use fund::journal::MOST_PLACES;
 use fund::posting::Posting;
 use std::alloc::{AllocError, Global};
 
@@ -15,7 +16,7 @@ pub enum Layers {
 #[derive(Clone, Copy, PartialEq, Eq, Debug)]
 pub enum Ground {
     Balance,
-    // A journal over so many places.
+    // A journal over this many places.
     Journal(u64),
 }
 
@@ -24,9 +25,6 @@ pub struct BookPlan {
     pub layers: Layers,
     pub ground: Ground,
 }
-
-// One more than a journal can have, which is the fund's own: any number from here on is refused alike.
-const TOO_MANY_PLACES: u64 = 65_537;
 
 pub(crate) fn plan(words: &[&str]) -> Result<BookPlan, LineFault> {
     let (layers, book) = match words {
@@ -45,6 +43,6 @@ pub(crate) fn plan(words: &[&str]) -> Result<BookPlan, LineFault> {
 // Places for a journal, as many as asked for; past the limit one too many.
 pub(crate) fn journal_places(heap: Global, places: u64) -> Result<Vec<Posting>, AllocError> {
     // The lesser of the two always fits a usize, so a TryFrom would have nothing to refuse.
-    let places = places.min(TOO_MANY_PLACES) as usize;
+    let places = places.min(MOST_PLACES as u64 + 1) as usize;
     vec![in heap; Posting::BLANK; places]
 }

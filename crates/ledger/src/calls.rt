@@ -1,4 +1,5 @@
-// The calls of a script, and the call that a line is. `heap` is a handle, handed beside what it is needed for, as in the library.
+// The calls of a script, and the call that a line is.
+// Memory is taken from `heap`, which is an argument of its own, as in the library.
 ghost use Rattle.std.specs.Prelude.{◌≡◌, length, MatchResult, ◌≢◌};
 ghost use Rattle.ledger.specs.Calls.{terms_of, row_of, day_of};
 
@@ -9,6 +10,7 @@ use crate::verbs::Verb;
 use assessment::day_result::{DayFigures, DayRow, PoolFigures};
 use assessment::submission::{Bid, DaySubmission, HourBids, Showing};
 use assessment::trade_month::TradeMonth;
+use pools::per_pool::PerPool;
 use settlement::fault::ResourceDay;
 use settlement::tables::{LoadEntry, MonthTerms, RosterEntry, SubmittedDay};
 use std::alloc::{AllocError, Global};
@@ -46,6 +48,7 @@ fn roster(heap: Global, categories: &[u32]) -> Result<Vec<RosterEntry>, LineFaul
         .iter()
         .enumerate()
         .map(|(number, category)| -> Result<RosterEntry, LineFault> {
+            // More resources than a u32 counts is more than there is memory for, and is told so.
             let identifier = u32::try_from(number).map_err(|_| LineFault::NoMemory(AllocError))?;
             Ok(RosterEntry {
                 identifier,
@@ -61,8 +64,7 @@ fn load_entries(heap: Global, words: &[&str]) -> Result<Vec<LoadEntry>, LineFaul
         .map(|(at, word)| -> Result<LoadEntry, LineFault> {
             Ok(LoadEntry {
                 load: wide_number(word, at)?,
-                generic: 0,
-                flexible: 0,
+                shares: PerPool::of(|_| 0),
             })
         })
         .try_collect(heap)
@@ -75,37 +77,42 @@ fn exactly<const N: usize>(numbers: &[u32]) -> Result<[u32; N], LineFault>
     <[u32; N]>::try_from(numbers).map_err(|_| LineFault::WrongCount(N))
 }
 
-fn table_lengths([days, lines]: [u32; 2]) -> TableLengths {
-    TableLengths { days, lines }
-}
-
-// Each number by its name, and not by pool: their order is the script's.
-fn placed_row(numbers: [u32; 5]) -> PlacedRow
-    ensures { result ≡ row_of numbers }
-{
-    let [
-        place,
-        generic_obligation,
-        generic_availability,
-        flexible_obligation,
-        flexible_availability,
-    ] = numbers;
-    let figures = DayFigures {
-        generic: PoolFigures {
-            obligation: generic_obligation,
-            availability: generic_availability,
-        },
-        flexible: PoolFigures {
-            obligation: flexible_obligation,
-            availability: flexible_availability,
-        },
-    };
-    PlacedRow {
-        place,
-        row: Some(figures),
+impl From<[u32; 2]> for TableLengths {
+    fn from([days, lines]: [u32; 2]) -> TableLengths {
+        TableLengths { days, lines }
     }
 }
 
+// Each number by its name, and not by pool: their order is the script's.
+impl From<[u32; 5]> for PlacedRow {
+    ghost from_gives = { λ ns r. r ≡ row_of ns };
+
+    fn from(numbers: [u32; 5]) -> PlacedRow {
+        let [
+            place,
+            generic_obligation,
+            generic_availability,
+            flexible_obligation,
+            flexible_availability,
+        ] = numbers;
+        let figures = DayFigures {
+            generic: PoolFigures {
+                obligation: generic_obligation,
+                availability: generic_availability,
+            },
+            flexible: PoolFigures {
+                obligation: flexible_obligation,
+                availability: flexible_availability,
+            },
+        };
+        PlacedRow {
+            place,
+            row: Some(figures),
+        }
+    }
+}
+
+// A function here and below, and no From: the order is this script's, and the types are settlement's.
 fn month_terms(numbers: [u32; 8]) -> MonthTerms
     ensures { result ≡ terms_of numbers }
 {
@@ -175,8 +182,8 @@ fn call_of(heap: Global, verb: Verb, words: &[&str]) -> Result<Call, LineFault> 
             let categories = short_numbers(heap, words)?;
             Ok(Call::Roster(roster(heap, categories.as_slice())?))
         }
-        Verb::Tables => Ok(Call::Tables(table_lengths(numbers(heap, words)?))),
-        Verb::Row => Ok(Call::Row(placed_row(numbers(heap, words)?))),
+        Verb::Tables => Ok(Call::Tables(numbers::<2>(heap, words)?.into())),
+        Verb::Row => Ok(Call::Row(numbers::<5>(heap, words)?.into())),
         Verb::Open => Ok(Call::Open(month_terms(numbers(heap, words)?))),
         Verb::Record => Ok(Call::Record(submitted_day(numbers(heap, words)?))),
         Verb::Close => {

@@ -23,6 +23,7 @@ pub(crate) fn wide_number(word: &str, at: usize) -> Result<u64, LineFault>
     word.parse().map_err(|_| LineFault::TooLarge(at))
 }
 
+// As `wide_number`, narrowed to 32 bits.
 fn short_number(word: &str, at: usize) -> Result<u32, LineFault>
     ensures { MatchResult result (λ n. Decimal 32 word.now × (n ≡ number word.now)) (λ _. Decimal 32 word.now → ⊥) }
 {

@@ -1,4 +1,5 @@
-// What every layer speaks of: the two pools of resource adequacy capacity, tables with an entry for each, and the error of a number outside the limits.
+// What every layer speaks of: the two pools of resource adequacy capacity, tables with an
+// entry for each, and the error of a number outside the limits.
 #![tactic(auto)]
 
 pub mod out_of_range;

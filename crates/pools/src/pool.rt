@@ -14,6 +14,7 @@ impl Pool {
     // Both, in the order in which they are posted and printed.
     pub const ALL: [Pool; 2] = [Pool::Generic, Pool::Flexible];
 
+    // Beside Display, since a statement takes the letter as a byte.
     pub fn letter(self) -> u8
         ensures { result ≡ pool_letter self }
     {

@@ -19,7 +19,7 @@ fn run(rt: &HostRuntime) -> anyhow::Result<ExitCode> {
             print!(rt; "{refusal}")?;
             Ok(ExitCode::FAILURE)
         }
-        // Handed on here, since only want of memory ends the program.
+        // A refusal is an output; any other error is handed on.
         Err(error) => Err(error.into()),
     }
 }

@@ -1,5 +1,5 @@
 -- A taken close, from its parts.
-use Rattle.std.proofs.Common.{◌≡◌, ℕ, ◌≤◌, List, Ok, refl}
+use Rattle.std.proofs.Common.{◌≡◌, ℕ, ◌≤◌, List, length, Ok, refl, subst, ◌∙◌}
 use Rattle.assessment.specs.Days.{Rules}
 use Rattle.assessment.specs.declared.trade_month.TradeMonth.{TradeMonth}
 use Rattle.assessment.specs.Figures.{DayRow}
@@ -9,7 +9,7 @@ use Rattle.pools.specs.PerPool.{entry_of}
 use Rattle.pools.specs.declared.per_pool.PerPool.{PerPool}
 use Rattle.pools.specs.declared.pool.Pool.{Pool}
 use Rattle.pools.specs.declared.pool.Pool.TheVariants.{Generic, Flexible}
-use Rattle.settlement.specs.Closing.{pools_closed, fund_of, charged_entries, month_posted, Funded, LinesClose, Closes}
+use Rattle.settlement.specs.Closing.{pools_closed, fund_of, charged_entries, line_table, month_posted, ClosesPool, Funded, LinesClose, Closes}
 use Rattle.settlement.specs.Tables.{AllFit}
 use Rattle.assessment.specs.Calendar.{date_of}
 use Rattle.settlement.specs.Views.{Phase, open_at, phase_closed}
@@ -23,6 +23,15 @@ module _ {S : Type 0} (m : FundMeaning S) (r : Rules) (s : S) (t : TradeMonth) (
   pub pools_funded : (c : PerPool PoolClose) → fund_of m r s t price roster rows Generic ≤ limit → fund_of m r s t price roster rows Flexible ≤ limit → c ≡ pools_closed m r s t price roster rows → (p : Pool) → Funded m s p (entry_of c p)
   pools_funded c g f e Generic = rw e (record { room = g; covered = payments_within price (m.shown s Generic) (charged_entries r t price roster rows Generic) })
   pools_funded c g f e Flexible = rw e (record { room = f; covered = payments_within price (m.shown s Flexible) (charged_entries r t price roster rows Flexible) })
+
+  -- the lines of both pools are closed, from each pool's close
+  pub both_closed : (a b : PoolClose) (gs fs gs' fs' lines lines' : List LineEntry) → gs ≡ charged_entries r t price roster rows Generic → fs ≡ charged_entries r t price roster rows Flexible
+      → ClosesPool price (m.shown s Generic) Generic gs (Ok a) gs' → ClosesPool price (m.shown s Flexible) Flexible fs (Ok b) fs' → length gs' ≡ length roster
+      → lines' ≡ line_table gs' fs' (length gs') → LinesClose m r s t price roster rows lines (Ok (record { generic = a; flexible = b })) lines'
+  both_closed a b gs fs gs' fs' lines lines' gs_are fs_are g f long is =
+      let g = subst (λ es. ClosesPool price (m.shown s Generic) Generic es (Ok a) gs') gs_are g in
+      let f = subst (λ es. ClosesPool price (m.shown s Flexible) Flexible es (Ok b) fs') fs_are f in
+      (g.0, f.0, (λ i. record { generic = g.1 i; flexible = f.1 i }), is ∙ rw (long, g.2, f.2) refl)
 
   -- and the close of the open month is taken
   pub close_taken : (o : PerPool ℕ) (p after : Phase) (lines lines' : List LineEntry) (c : PerPool PoolClose) (u : S) → p ≡ open_at t price → AllFit roster rows lines → LinesClose m r s t price roster rows lines (Ok c) lines'

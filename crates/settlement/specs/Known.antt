@@ -29,7 +29,7 @@ cents_of (e ∷ es) = e.cents
 
 -- a load of 1 GWh
 abbrev load : LoadEntry
-load = record { load = 1; generic = 0; flexible = 0 }
+load = record { load = 1; shares = record { generic = 0; flexible = 0 } }
 
 -- a balance of 1,000 cents over three such loads
 abbrev three_shares : List LoadEntry
@@ -38,7 +38,7 @@ three_shares = map (shared 1000 0 (load_told Load (load ∷ load ∷ load ∷ []
 -- the generic share of the first load
 abbrev share_of_first : List LoadEntry → ℕ
 share_of_first [] = 0
-share_of_first (e ∷ es) = e.generic
+share_of_first (e ∷ es) = e.shares.generic
 
 -- a rate, a payment and what is left; a share and what is left
 abbrev pub money_figures : List Known

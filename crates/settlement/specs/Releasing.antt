@@ -2,6 +2,7 @@
 use Rattle.std.specs.Prelude.{◌≡◌, ℕ, ◌*◌, ◌/◌, ◌<◌, ◌≤◌, List, map, length, Ok, Err, sum_by, Result, slice_index_or}
 use Rattle.fund.specs.Laws.{with_room}
 use Rattle.fund.specs.Meaning.{FundMeaning}
+use Rattle.pools.specs.PerPool.{entry_of}
 use Rattle.pools.specs.declared.pool.Pool.TheVariants.{Generic, Flexible}
 use Rattle.fund.specs.declared.standing.Standing.TheVariants.{Binding}
 use Rattle.settlement.specs.Views.{View, Phase, fresh, open_at, closed, release_due}
@@ -15,8 +16,7 @@ use Rattle.settlement.specs.declared.tables.LoadEntry.{LoadEntry}
 -- what a load entry tells: its load, or its share of a pool
 abbrev pub load_tells : LoadAmount → LoadEntry → ℕ
 load_tells Load e = e.load
-load_tells (Share Generic) e = e.generic
-load_tells (Share Flexible) e = e.flexible
+load_tells (Share p) e = entry_of e.shares p
 
 -- an amount summed over load entries
 abbrev pub load_told : LoadAmount → List LoadEntry → ℕ
@@ -24,7 +24,7 @@ load_told a es = sum_by (load_tells a) es
 
 -- stands in for an entry that is not there
 abbrev pub no_load : LoadEntry
-no_load = record { load = 0; generic = 0; flexible = 0 }
+no_load = record { load = 0; shares = record { generic = 0; flexible = 0 } }
 
 -- each load is up to 1,000,000 GWh
 abbrev pub EachLoadWithin : List LoadEntry → Type 0
@@ -47,7 +47,7 @@ share_of balance total load = balance * load / total
 
 -- an entry with its shares of the two balances
 abbrev pub shared : ℕ → ℕ → ℕ → LoadEntry → LoadEntry
-shared generic flexible total e = record { load = e.load; generic = share_of generic total e.load; flexible = share_of flexible total e.load }
+shared generic flexible total e = record { load = e.load; shares = record { generic = share_of generic total e.load; flexible = share_of flexible total e.load } }
 
 module _ {S : Type 0} (m : FundMeaning S) where
   -- the binding balances are shared out

@@ -43,8 +43,7 @@ impl TellsAmount for LoadEntry {
     fn amount(&self, selection: LoadAmount) -> u64 {
         match selection {
             LoadAmount::Load => self.load,
-            LoadAmount::Share(Pool::Generic) => self.generic,
-            LoadAmount::Share(Pool::Flexible) => self.flexible,
+            LoadAmount::Share(pool) => self.shares.get(pool),
         }
     }
 }

@@ -1,6 +1,6 @@
 // Closing a month: an assessing part, a paying part, and the postings.
-ghost use Rattle.std.specs.Prelude.{◌≡◌, ◌*◌, length, take, OnErr};
-ghost use Rattle.pools.specs.PerPool.{entry_of, with_entry};
+ghost use Rattle.std.specs.Prelude.{◌≡◌, ◌*◌, length, OnErr};
+ghost use Rattle.arrayvec.specs.ArrayVec.{array_vec_len};
 ghost use Rattle.settlement.specs.Closing.{QuantitiesWithin, ClosesPool, LinesClose, Closes};
 ghost use Rattle.settlement.specs.Runs.{CloseGoesOn};
 ghost use Rattle.assessment.specs.Pairs.{rules_of};
@@ -10,10 +10,12 @@ use crate::checks::{MOST_RESOURCES, all_fit};
 use crate::fault::SettlementFault;
 use crate::pays::{close_pool, write_table};
 use crate::postings::post_month;
+use crate::price::Price;
 use crate::settlement::Settlement;
 use crate::stage::Stage;
 use crate::tables::{LineEntry, PoolClose, RosterEntry};
 use crate::workings::MonthTables;
+use arrayvec::ArrayVec;
 use assessment::day_result::DayRow;
 use assessment::month_date::{DECEMBER, MonthDate};
 use assessment::rule::AvailabilityRule;
@@ -40,21 +42,15 @@ impl<B: FundBook, G: AvailabilityRule, F: AvailabilityRule> Settlement<B, G, F> 
     fn close_in(
         &self,
         pool: Pool,
-        tables: &MonthTables<'_>,
-        entries: &mut PerPool<[LineEntry; MOST_RESOURCES]>,
+        price: Price,
+        entries: &mut ArrayVec<LineEntry, MOST_RESOURCES>,
     ) -> Result<PoolClose, BookFault>
-        requires { QuantitiesWithin (take (length tables.now.roster.now) (entry_of entries.old pool)) }
-        ensures closes { ClosesPool tables.now.month.now.price.cents (B.means.shown (B.state self.now.book) pool) pool (take (length tables.now.roster.now) (entry_of entries.old pool)) result (take (length tables.now.roster.now) (entry_of entries.new pool)) }
-        ensures others { entries.new ≡ with_entry entries.old pool (entry_of entries.new pool) }
+        requires { QuantitiesWithin entries.old.items }
+        ensures closes { ClosesPool price.cents (B.means.shown (B.state self.now.book) pool) pool entries.old.items result entries.new.items }
+        ensures long { array_vec_len entries.new ≡ array_vec_len entries.old }
     {
-        let resources = tables.roster.len();
         let shown = self.book.shown(pool);
-        close_pool(
-            &mut entries.entry(pool)[0..resources],
-            pool,
-            tables.month.price,
-            shown,
-        )
+        close_pool(entries, pool, price, shown)
     }
 
     // Works out and closes both pools, and writes the line table only when both funds are within the limit.
@@ -66,18 +62,18 @@ impl<B: FundBook, G: AvailabilityRule, F: AvailabilityRule> Settlement<B, G, F> 
         requires fit { length lines.old ≡ 2 * length tables.now.roster.now }
         ensures { LinesClose B.means (rules_of G.means F.means self.now.rules) (B.state self.now.book) tables.now.month.now.settings.month tables.now.month.now.price.cents tables.now.roster.now tables.now.rows.now lines.old result lines.new }
     {
+        let price = tables.month.price;
         let mut entries = tables.work_out(&self.rules);
-        // Two calls, since in a loop a pool would need a close before it is closed.
+        // Not `PerPool::of`: each writes its entries, and a fault of the first must stop the second.
         let pools = PerPool {
-            generic: self.close_in(Pool::Generic, tables, &mut entries)?,
-            flexible: self.close_in(Pool::Flexible, tables, &mut entries)?,
+            generic: self.close_in(Pool::Generic, price, &mut entries.generic)?,
+            flexible: self.close_in(Pool::Flexible, price, &mut entries.flexible)?,
         };
-        let resources = tables.roster.len();
         write_table(
             lines,
             &PerPool {
-                generic: &entries.generic[0..resources],
-                flexible: &entries.flexible[0..resources],
+                generic: &entries.generic,
+                flexible: &entries.flexible,
             },
         );
         Ok(pools)
@@ -98,7 +94,7 @@ impl<B: FundBook, G: AvailabilityRule, F: AvailabilityRule> Settlement<B, G, F> 
         if !all_fit(roster, rows, lines) {
             return Err(SettlementFault::UnfitTables);
         }
-        // No `?`, since a stage carries no error.
+        // No `?`: a stage is no Result, and a method that made one of it would be a match, and longer.
         let Stage::Open(month) = self.stage else {
             return Err(SettlementFault::OutOfTurn);
         };

@@ -45,7 +45,7 @@ pub enum SettlementFault {
     DayOverLimit(ResourceDay),
     #[error("{0}: flexible capacity is shown in category 0")]
     FlexibleInCategory0(ResourceDay),
-    #[error("{0}")]
+    #[error(transparent)]
     Book(BookFault),
 }
 
@@ -56,6 +56,7 @@ pub enum FaultPlace {
     Day(ResourceDay),
 }
 
+// By hand, since contracts need the case that `?` makes.
 impl From<BookFault> for SettlementFault {
     ghost from_gives = { λ e r. r ≡ Book e };
 

@@ -51,6 +51,7 @@ struct FitTerms {
     standing: Standing,
 }
 
+// An Option and no TryFrom, since whatever is outside its limits is one fault, which `open` names as it does its others.
 fn fit_terms(terms: &MonthTerms) -> Option<FitTerms>
     ensures { MatchOption result (TermsWithin terms.now → ⊥) (λ o. TermsWithin terms.now × (o.month.settings.month ≡ terms.now.month) × (o.month.price.cents ≡ terms.now.price) × (o.standing ≡ standing_of terms.now.standing)) }
 {
@@ -80,7 +81,8 @@ impl<B: FundBook, G: AvailabilityRule, F: AvailabilityRule> Settlement<B, G, F> 
         }
     }
 
-    // Opens a month: empties the day table, and sets the book's standing.
+    // Opens a month: empties the day table, and sets the book's standing. The caller owns roster and rows, and hands them in with
+    // each call (docs/settlement.md). Each call says for itself that a refusal changes nothing (`same`) and that the rules stay.
     pub fn open(
         &mut self,
         terms: &MonthTerms,

@@ -25,14 +25,15 @@ pub(crate) fn rate_for(price: Price, fund: u64, quantity: u128) -> Rate
     }
     let triple = 3 * u128::from(price.cents);
     let all_of_it = u128::from(fund) * 1_000_000 / quantity;
-    // The cast loses nothing, since a rate is triple the price at most.
+    // The cast loses nothing, since a rate is triple the price at most: a TryFrom would have nothing to refuse.
     Rate {
         cents: triple.min(all_of_it) as u64,
     }
 }
 
-// The eligible quantity of each line, 0 where it is not eligible, in a table of its own that is filled by place: the form
-// that is asked for.
+// The eligible quantity of each line, 0 where it is not eligible, in a table of its own that is filled by place
+// (docs/DECISIONS.md, Forms of code). The limit of 512 is a clause here and in what follows, since no type of a slice tells its
+// longest length.
 fn eligible_quantities(entries: &[LineEntry]) -> [u64; MOST_RESOURCES]
     requires { length entries.now ≤ 512 }
     ensures eligible { (k : ℕ) → k < length entries.now → slice_index result k ≡ line_tells EligibleQuantity (slice_index_or entries.now k no_line) }
@@ -87,7 +88,8 @@ pub(crate) fn close_pool(
     if charges > u128::from(LIMIT - shown) {
         return Err(BookFault::OverLimit(pool));
     }
-    // Neither cast loses anything: the fund is within the limit, and the payments are within the fund.
+    // Neither cast loses anything: the fund is within the limit, and the payments are within the fund. A TryFrom would have
+    // nothing to refuse.
     let charges = charges as u64;
     let quantity = total(entries, LineAmount::EligibleQuantity);
     let rate = rate_for(price, shown + charges, quantity);

@@ -69,7 +69,7 @@ pub(crate) fn post_release<B: FundBook>(book: &mut B, loads: &[LoadEntry])
 {
     make_room(book, RELEASE_POSTINGS);
     for pool in Pool::ALL {
-        // The cast loses nothing, since no more is shared out than the pool shows.
+        // The cast loses nothing, since no more is shared out than the pool shows: a TryFrom would have nothing to refuse.
         post_out(book, pool, total(loads, LoadAmount::Share(pool)) as u64);
     }
 }

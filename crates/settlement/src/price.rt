@@ -47,7 +47,8 @@ impl From<Price> for Rate {
 impl Rate {
     ghost use Rattle.settlement.specs.Prices.{cents_at};
 
-    // The cents for a quantity in watts.
+    // The cents for a quantity in watts. Its limit is a clause here, in `charged` and in `paid`, and no type: a line can be handed in
+    // with any quantity.
     pub(crate) fn cents_for(self, quantity: u64) -> u64
         requires { quantity ≤ 58590000000 }
         ensures { result ≡ cents_at self.cents quantity }

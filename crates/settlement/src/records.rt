@@ -43,11 +43,12 @@ impl<B: FundBook, G: AvailabilityRule, F: AvailabilityRule> Settlement<B, G, F> 
         if !days_fit(roster, rows) {
             return Err(SettlementFault::UnfitTables);
         }
-        // No `?`, since a stage carries no error.
+        // No `?`: a stage is no Result, and a method that made one of it would be a match, and longer.
         let Stage::Open(month) = self.stage else {
             return Err(SettlementFault::OutOfTurn);
         };
-        // By place, since the table is flat as it is handed in; a u32 becomes a usize by `as` only.
+        // By place, since the table is flat: the caller owns it, and one of another length is refused (10). Any u32 fits a usize,
+        // but there is no From between them.
         let resource = day.at.resource as usize;
         let entry = roster
             .get(resource)

@@ -55,7 +55,9 @@ struct Release {
 }
 
 impl Release {
-    // A load's part of a pool's balance, in whole cents. The cast loses nothing, since the product fits too.
+    // A load's part of a pool's balance, in whole cents, divided in 128 bits since a total has so many. The cast loses nothing, as
+    // the product fits too, and a TryFrom would have nothing to refuse. The load's limit is a clause here and below, and no type:
+    // entries are handed in with any load.
     fn share(&self, pool: Pool, load: u64) -> u64
         requires { load ≤ 1000000 }
         ensures { result ≡ share_of (entry_of self.now.balances pool) self.now.load load }
@@ -63,19 +65,17 @@ impl Release {
         (u128::from(self.balances.get(pool) * load) / self.load) as u64
     }
 
-    // Both pools by name, since an entry has a field for each.
     fn with_shares(&self, entry: LoadEntry) -> LoadEntry
         requires { entry.load ≤ 1000000 }
         ensures { result ≡ shared self.now.balances.generic self.now.balances.flexible self.now.load entry }
     {
         LoadEntry {
-            generic: self.share(Pool::Generic, entry.load),
-            flexible: self.share(Pool::Flexible, entry.load),
+            shares: PerPool::of(|pool| self.share(pool, entry.load)),
             ..entry
         }
     }
 
-    // Writes each entry's share of both balances, entry by entry with its index: the form that is asked for.
+    // Writes each entry's share of both balances, entry by entry with its index (docs/DECISIONS.md, Forms of code).
     fn share_out(&self, loads: &mut [LoadEntry])
         requires { EachLoadWithin loads.old }
         ensures { loads.new ≡ map (shared self.now.balances.generic self.now.balances.flexible self.now.load) loads.old }
@@ -94,7 +94,7 @@ impl<B: FundBook, G: AvailabilityRule, F: AvailabilityRule> Settlement<B, G, F> 
         ensures rules { self.new.rules ≡ self.old.rules }
         ensures runs { ReleaseGoesOn B.means B.sound (rules_of G.means F.means self.old.rules) (view B.state self.old) result (rules_of G.means F.means self.new.rules) (view B.state self.new) loads.new }
     {
-        // No `?`, since a stage carries no error.
+        // No `?`: a stage is no Result, and a method that made one of it would be a match, and longer.
         let Stage::ReleaseDue(december) = self.stage else {
             return Err(SettlementFault::OutOfTurn);
         };

@@ -1,17 +1,20 @@
 // What is handed in with a call: plain entries, checked before they are used.
 ghost use Rattle.std.specs.Prelude.{◌≡◌};
+ghost use Rattle.settlement.specs.Closing.{no_line};
 ghost use Rattle.settlement.specs.Tables.{pool_at};
 
 use crate::fault::ResourceDay;
 use assessment::line::{Line, LineState};
 use assessment::submission::DaySubmission;
 use assessment::trade_month::TradeMonth;
+use pools::per_pool::PerPool;
 use pools::pool::Pool;
 
 // A resource of the month, by its place in the roster.
 #[derive(Clone, Copy, PartialEq, Eq, Debug)]
 pub struct RosterEntry {
     pub identifier: u32,
+    // A number, since one above 3 is refused (10).
     pub category: u32,
 }
 
@@ -53,7 +56,17 @@ impl LineEntry {
     };
 }
 
-// How many places of the line table a resource has: one in each pool.
+// By hand, as a derived one would want a Default of `Line` and of `LineState`.
+impl Default for LineEntry {
+    ghost is_default = { λ e. e ≡ no_line };
+
+    fn default() -> LineEntry {
+        LineEntry::EMPTY
+    }
+}
+
+// How many places of the line table a resource has: one in each pool. Flat, and no table of PerPool, since it is the caller's
+// table, and one of another length is refused (10).
 pub const LINES: usize = Pool::ALL.len();
 
 // The pool of a place of the line table: two places a resource, generic first.
@@ -63,12 +76,11 @@ pub fn pool_at(place: usize) -> Pool
     Pool::ALL[place % LINES]
 }
 
-// A load in GWh, and its share of each pool's balance in cents: two fields beside another, as it is handed in.
+// A load in GWh, and its share of each pool's balance in cents.
 #[derive(Clone, Copy, PartialEq, Eq, Debug)]
 pub struct LoadEntry {
     pub load: u64,
-    pub generic: u64,
-    pub flexible: u64,
+    pub shares: PerPool<u64>,
 }
 
 // What a close comes to in a pool.

@@ -9,6 +9,7 @@ use assessment::submission::{Bid, DaySubmission, HourBids, Showing};
 use assessment::trade_month::TradeMonth;
 use fund::balance_book::BalanceBook;
 use fund::overlay::Overlay;
+use pools::per_pool::PerPool;
 use pools::pool::Pool;
 
 const ROSTER: [RosterEntry; 2] = [RosterEntry {
@@ -97,10 +98,9 @@ fn advisory_december_and_release(rt: HostRuntime) {
     assert!(rt; held < desk.account(Pool::Generic).balances.shown);
     let mut loads = [LoadEntry {
         load: 1,
-        generic: 0,
-        flexible: 0,
+        shares: PerPool::of(|_| 0),
     }; 3];
     assert!(rt; desk.release(&mut loads).is_ok());
-    assert_eq!(rt; loads[0].generic, held / 3);
+    assert_eq!(rt; loads[0].shares.generic, held / 3);
     assert_eq!(rt; desk.account(Pool::Generic).balances.shown, held % 3);
 }

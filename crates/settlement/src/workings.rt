@@ -1,5 +1,6 @@
 // A month's lines, worked out before anything is written to the caller's table.
-ghost use Rattle.std.specs.Prelude.{◌≡◌, ◌<◌, ◌≤◌, length, take};
+ghost use Rattle.std.specs.Prelude.{◌≡◌, ◌<◌, ◌≤◌, length};
+ghost use Rattle.arrayvec.specs.ArrayVec.{array_vec_len};
 ghost use Rattle.assessment.specs.Laws.{LinesLaw};
 ghost use Rattle.assessment.specs.Lines.{lines_of};
 ghost use Rattle.assessment.specs.Pairs.{rules_of};
@@ -12,6 +13,7 @@ use crate::checks::MOST_RESOURCES;
 use crate::price::{Price, Rate};
 use crate::stage::OpenMonth;
 use crate::tables::{LineEntry, RosterEntry};
+use arrayvec::ArrayVec;
 use assessment::category::Category;
 use assessment::day_result::{DAY_PLACES, DayRow};
 use assessment::line::{Line, LineState, MonthLines};
@@ -67,18 +69,19 @@ impl MonthTables<'_> {
     pub(crate) fn work_out<G: AvailabilityRule, F: AvailabilityRule>(
         &self,
         rules: &RulePair<G, F>,
-    ) -> PerPool<[LineEntry; MOST_RESOURCES]>
-        ensures is { (p : Pool) → take (length self.now.roster.now) (entry_of result p) ≡ charged_entries (rules_of G.means F.means rules.now) self.now.month.now.settings.month self.now.month.now.price.cents self.now.roster.now self.now.rows.now p }
-        ensures small { (p : Pool) → QuantitiesWithin (take (length self.now.roster.now) (entry_of result p)) }
+    ) -> PerPool<ArrayVec<LineEntry, MOST_RESOURCES>>
+        ensures is { (p : Pool) → (entry_of result p).items ≡ charged_entries (rules_of G.means F.means rules.now) self.now.month.now.settings.month self.now.month.now.price.cents self.now.roster.now self.now.rows.now p }
+        ensures long { (p : Pool) → array_vec_len (entry_of result p) ≡ length self.now.roster.now }
+        ensures small { (p : Pool) → QuantitiesWithin (entry_of result p).items }
     {
         // Of a fixed size, since a close has no want of memory among its answers.
-        let mut entries = PerPool::of(|_| [LineEntry::EMPTY; MOST_RESOURCES]);
-        // By index, since a resource's lines go into both pools' tables.
+        let mut entries = PerPool::of(|_| ArrayVec::new());
+        let price = self.month.price;
+        // By index, since a resource is a place of the roster and 31 of the day table.
         for i in 0..self.roster.len() {
             let lines = self.resource_lines(i, rules);
-            for pool in Pool::ALL {
-                entries.entry(pool)[i] = charged(self.month.price, lines.get(pool));
-            }
+            entries.generic.push(charged(price, lines.generic));
+            entries.flexible.push(charged(price, lines.flexible));
         }
         entries
     }

@@ -22,6 +22,7 @@ fn place_row(place: usize, entry: &LineEntry) -> PrintedLine
     match entry.line.state {
         LineState::Empty => PrintedLine::empty(),
         LineState::Charged | LineState::Neutral | LineState::Paid => {
+            // The line table is flat, as settlement writes it: LINES places to a resource.
             line_row(place / LINES, pool_at(place), entry)
         }
     }
@@ -31,7 +32,7 @@ fn place_row(place: usize, entry: &LineEntry) -> PrintedLine
 fn put_lines(out: &mut Vec<u8>, lines: &[LineEntry]) -> Result<(), AllocError>
     ensures { OnOk result (out.new.items ≡ out.old.items ++ line_rows lines.now) }
 {
-    // the place is data: it tells the line's resource and pool
+    // The place is data: it tells the line's resource and pool.
     for (place, entry) in lines.iter().enumerate() {
         out.extend_from_slice(place_row(place, entry).written())?;
     }
@@ -50,7 +51,7 @@ fn print_month(heap: Global, month: &ClosedMonth) -> Result<Vec<u8>, AllocError>
     Ok(out)
 }
 
-// The statement of a month file. `heap` is a handle, handed beside what it is needed for, as in the library.
+// The statement of a month file. Memory is taken from `heap`, which is an argument of its own, as in the library.
 #[tactic(auto, using(crate::proofs::Outputs::laws, crate::proofs::Outputs::refused_by, crate::proofs::Outputs::settled_begun), unfolding(crate::specs::Printing::output, crate::specs::Printing::is_settled))]
 pub fn settle_file(heap: Global, file: &[u8]) -> Result<Vec<u8>, NoStatement>
     ensures settled { IfOk result (λ v. (is_settled file.now ≡ true) × (v.items ≡ output file.now)) }

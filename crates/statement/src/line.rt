@@ -1,5 +1,5 @@
 // A printed line, built in a buffer of 96 bytes: the first `len` are written, the others are 0.
-// That a line is such a buffer, and no String, is given: a refusal is printed without any heap.
+// A buffer and not a String: a refusal is printed without any heap.
 ghost use Rattle.std.specs.Prelude.{◌≡◌, ℕ, ◌≤◌, List, take, slice_index, Some};
 
 use std::marker::Model;
@@ -7,6 +7,7 @@ use std::{fmt, str};
 
 mod puts;
 
+// No comparison is derived, as nothing compares lines: what is written is compared.
 #[derive(Debug, Drop)]
 pub struct PrintedLine {
     bytes: [u8; 96],

@@ -21,6 +21,7 @@ pub const DAY_BYTES: usize = 412;
 
 const WORD_BYTES: usize = 4;
 
+// Words are picked by place, here and in `hours`, as the definitions in specs/Layout tell them.
 fn word(bytes: &[u8], at: usize) -> u32
     requires { at + 4 ≤ length bytes.now }
     ensures { result ≡ word_at bytes.now at }
@@ -54,6 +55,7 @@ fn hours(bids: &[u32; 96]) -> [HourBids; 24]
     })
 }
 
+// Here and below, `within`: a record with its first word, 4 bytes, takes no more than there are.
 #[tactic(auto, unfolding(crate::specs::Layout::month_of, crate::specs::Layout::words_of))]
 fn read_month(rest: &[u8]) -> Result<FileRecord, ReaderFault>
     ensures value { result ≡ month_of rest.now }
@@ -111,7 +113,7 @@ fn read_day(rest: &[u8]) -> Result<FileRecord, ReaderFault>
         generic_exempt,
         flexible_exempt,
     ] = words::<6>(rest)?;
-    let bids = words::<96>(&rest[24..])?;
+    let bids = words::<96>(&rest[6 * WORD_BYTES..])?;
     Ok(FileRecord::Day(SubmittedDay {
         at: ResourceDay { resource, day },
         submission: DaySubmission {
@@ -144,7 +146,7 @@ pub fn next_record(bytes: &[u8]) -> Result<FileRecord, ReaderFault>
     }
 }
 
-// The month record that the bytes begin with.
+// The month record that the bytes begin with. Month and day have a function each, since each takes another variant out.
 pub fn month_record(bytes: &[u8]) -> Result<MonthTerms, ReaderFault>
     ensures value { result ≡ as_month (record_of bytes.now) }
     ensures within { OnOk result (36 ≤ length bytes.now) }
@@ -156,7 +158,7 @@ pub fn month_record(bytes: &[u8]) -> Result<MonthTerms, ReaderFault>
 }
 
 // The resource of this number that the bytes begin with; None where the days begin.
-// The number is turned by `as`, since a u32 has no From to a usize.
+// The number is converted by `as`, since a u32 has no From to a usize.
 pub fn roster_record(bytes: &[u8], number: usize) -> Result<Option<RosterEntry>, ReaderFault>
     ensures value { result ≡ as_resource number (record_of bytes.now) }
     ensures within { OnOk result (16 ≤ length bytes.now) }

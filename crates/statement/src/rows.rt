@@ -1,5 +1,5 @@
 // The lines of a statement, and the line of a refusal.
-// They are put piece by piece and not by `write!`: a line is always made, and of `write!` it is known what it writes only where it succeeds, but not that it does.
+// Not by `write!`: it promises its text only where it succeeds, and nothing shows that it does.
 ghost use Rattle.std.specs.Prelude.{◌≡◌, ◌+◌, ◌<◌, ◌≤◌, ◌++◌, length};
 ghost use Rattle.pools.specs.PerPool.{entry_of};
 ghost use Rattle.statement.specs.Rows.{two_digits, header_row, line_row, pool_row, refusal_row};
@@ -42,7 +42,7 @@ pub(crate) fn line_row(resource: usize, pool: Pool, entry: &LineEntry) -> Printe
     ensures { result ≡ line_row resource pool entry.now }
 {
     let mut line = PrintedLine::empty();
-    // `as`, since a usize has no From to a u64
+    // Converted by `as`, since a usize has no From to a u64.
     line.put_decimal(resource as u64);
     line.put_byte(b' ');
     line.put_byte(pool.letter());
@@ -87,9 +87,10 @@ pub fn refusal_row(fault: Located<StatementFault>) -> PrintedLine
     line.put_text(b"REFUSED ");
     line.put_decimal(u64::from(label.number));
     line.put_byte(b' ');
+    // A label tells its layer by a char, which is printed as its one byte.
     line.put_byte(u8::try_from(label.layer).unwrap());
     line.put_byte(b' ');
-    // `as`, since a usize has no From to a u64
+    // Converted by `as`, since a usize has no From to a u64.
     line.put_decimal(label.place as u64);
     line.put_byte(b'\n');
     line

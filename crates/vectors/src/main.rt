@@ -2,13 +2,14 @@
 // Standard input names the files, one to a line: NAME.month, and its output in NAME.statement.
 #![tactic(auto)]
 
-use anyhow::anyhow;
+use anyhow::ensure;
 use statement::job::settle_file;
 use statement::no_statement::NoStatement;
 use std::fs;
 
 // How many files were run, and how many of them came out as expected.
-#[derive(Clone, Copy, PartialEq, Eq, Debug)]
+// The Tally of examples counts figures and not files, and those that were published beside.
+#[derive(Clone, Copy, PartialEq, Eq, Debug, Default)]
 struct Tally {
     run: u64,
     expected: u64,
@@ -31,7 +32,7 @@ fn run_file(rt: &HostRuntime, name: &str) -> anyhow::Result<bool> {
         Err(refusal @ NoStatement::Refused(_)) => {
             ("refused", format!(in rt.alloc(); "{refusal}")?.into_bytes())
         }
-        // Handed on here, since a refusal is an output too and not every error ends the run.
+        // A refusal is an output; any other error is handed on.
         Err(error) => return Err(error.into()),
     };
     let agrees = output == expected;
@@ -42,19 +43,14 @@ fn run_file(rt: &HostRuntime, name: &str) -> anyhow::Result<bool> {
 }
 
 fn run(rt: &HostRuntime) -> anyhow::Result<()> {
-    let mut tally = Tally {
-        run: 0,
-        expected: 0,
-    };
+    let mut tally = Tally::default();
     for line in rt.lines(rt.alloc()) {
         let name = line?;
         tally = tally.with(run_file(rt, name.as_str())?);
     }
     let Tally { run, expected } = tally;
     println!(rt; "{run} files, {expected} as expected")?;
-    if expected < run {
-        return Err(anyhow!("some outputs differ"));
-    }
+    ensure!(expected == run, "some outputs differ");
     Ok(())
 }
 

@@ -1,25 +1,22 @@
 // `Journal` as a fund book.
-ghost use Rattle.std.specs.Prelude.{◌≡◌, ◌≤◌, ◌↔◌, None, IsOk, IfOk, IfErr, vec_len};
+ghost use Rattle.std.specs.Prelude.{◌≡◌, ◌<◌, ◌≤◌, ◌↔◌, None, IsOk, IfOk, IfErr, MatchResult, vec_len};
 ghost use Rattle.fund.specs.Balances.{limit};
 ghost use Rattle.fund.specs.Faults.{label, labelled};
 ghost use Rattle.fund.specs.Postings.{posted, balance};
 ghost use Rattle.fund.specs.Pages.{Fit, Pages, PagesSound, blank_pages, posting, with_posting, with_brought};
 ghost use Rattle.fund.specs.Journal.{pages_of, journal_book};
 ghost use Rattle.fund.specs.JournalLemmas.{journal_lawful};
+ghost use Rattle.fund.specs.declared.fault.BookFault.TheVariants.{NoFreePlace};
 
 use crate::balance::Balance;
 use crate::book::FundBook;
 use crate::fault::BookFault;
-use crate::journal::{Journal, RefusedPlaces};
+use crate::journal::{FEWEST_PLACES, Journal, MOST_PLACES, RefusedPlaces};
 use crate::posting::{Direction, Posting, Side};
 use crate::standing::Standing;
 use crate::total::total;
 use pools::per_pool::PerPool;
 use pools::pool::Pool;
-
-const FEWEST: usize = 8;
-
-const MOST: usize = 65_536;
 
 impl Journal {
     // An empty journal in the places handed in, 8 to 65,536 of them; any other number comes back with the fault.
@@ -30,7 +27,7 @@ impl Journal {
         ensures back { IfErr result (λ e. e.places ≡ places) }
     {
         let size = places.len();
-        if !(FEWEST..=MOST).contains(&size) {
+        if !(FEWEST_PLACES..=MOST_PLACES).contains(&size) {
             return Err(RefusedPlaces {
                 fault: BookFault::UnfitPlaces,
                 places,
@@ -64,8 +61,18 @@ impl Journal {
         ensures { result.cents ≡ balance (pages_of self.now).postings pool }
     {
         let cents = self.posted(Direction::In, pool) - self.posted(Direction::Out, pool);
-        // `as` narrows what is proved to be within the limit.
+        // `as` narrows what is proved to be within the limit, so a TryFrom would have nothing to refuse.
         Balance::new(cents as u64)
+    }
+
+    // Whether a posting to the pool finds a free place.
+    fn has_place(&self, pool: Pool) -> Result<(), BookFault>
+        ensures { MatchResult result (λ _. vec_len self.now.postings < self.now.size) (λ e. (vec_len self.now.postings ≡ self.now.size) × (e ≡ NoFreePlace pool)) }
+    {
+        if self.free_places() == 0 {
+            return Err(BookFault::NoFreePlace(pool));
+        }
+        Ok(())
     }
 
     // Writes a posting into the first free place.
@@ -132,9 +139,7 @@ impl FundBook for Journal {
     }
 
     fn post_in(&mut self, pool: Pool, amount: u64) -> Result<(), BookFault> {
-        if self.free_places() == 0 {
-            return Err(BookFault::NoFreePlace(pool));
-        }
+        self.has_place(pool)?;
         // The balance, posted to on trial, says whether the limit allows it.
         self.balance(pool).post_in(pool, amount)?;
         self.write(Direction::In, pool, amount);
@@ -142,9 +147,7 @@ impl FundBook for Journal {
     }
 
     fn post_out(&mut self, pool: Pool, amount: u64) -> Result<(), BookFault> {
-        if self.free_places() == 0 {
-            return Err(BookFault::NoFreePlace(pool));
-        }
+        self.has_place(pool)?;
         self.balance(pool).post_out(pool, amount)?;
         self.write(Direction::Out, pool, amount);
         Ok(())

@@ -1,4 +1,4 @@
-// What is put at the end of a line.
+// What is put at the end of a line. Each `requires` says that the line has room for it.
 ghost use Rattle.std.specs.Prelude.{◌≡◌, ◌+◌, ◌<◌, ◌≤◌, [], ◌∷◌, ◌++◌, length, decimal};
 
 use super::PrintedLine;
@@ -45,7 +45,7 @@ impl PrintedLine {
         if n >= 10 {
             self.put_digits(n / 10);
         }
-        // `as`, since a u64 has only a TryFrom to a u8, and a digit always fits
+        // Narrowed by `as`: a u64 has only a TryFrom to a u8, and a digit always fits.
         self.put_byte(b'0' + (n % 10) as u8);
     }
 
