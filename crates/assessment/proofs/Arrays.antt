@@ -1,7 +1,9 @@
 -- An array made by a closure: what each call gives holds of each element, as long as the closure keeps what it holds.
-use Rattle.std.proofs.Common.{◌≡◌, ℕ, zero, suc, ◌+◌, ◌<◌, ◌≤◌, List, get_or, sym, subst, arith}
+use Rattle.std.proofs.Common.{◌≡◌, ℕ, zero, suc, ◌+◌, ◌<◌, ◌≤◌, List, map, get_or, sym, subst, arith}
+use Rattle.std.proofs.lemmas.List.FromFn.{fill_by_all}
 use Rattle.std.specs.Array.{IsFromFnResult, IsFromFnResultFrom}
 use Rattle.std.specs.Fn.{Called, Mut}
+use Rattle.std.specs.List.{range_with_len}
 
 module _ {F B : Type 0} (g : Mut F (ℕ × Unit {0}) B) (Keeps : F → Type 0) (P : ℕ → B → Type 0) (n : ℕ) (call : (p q : F) (k : ℕ) (y : B) → k < n → Keeps p → Called g p (k, tt) y q → P k y × Keeps q) where
   from : (p : F) (ys : List B) (i m : ℕ) → i + m ≤ n → Keeps p → IsFromFnResultFrom g p ys i m → (j k : ℕ) (d : B) → i + j ≡ k → j < m → P k (get_or ys k d)
@@ -14,3 +16,8 @@ module _ {F B : Type 0} (g : Mut F (ℕ × Unit {0}) B) (Keeps : F → Type 0) (
 
   pub each_made : (p : F) (ys : List B) → Keeps p → IsFromFnResult g p ys n → (k : ℕ) (d : B) → k < n → P k (get_or ys k d)
   each_made p ys keeps made k d lt = from p ys 0 n (omega arith) keeps made.each k k d (omega arith) lt
+
+-- an array made by the calls of a function of the place is the list of its values
+pub all_made : {F B : Type 0} (g : Mut F (ℕ × Unit {0}) B) (Keeps : F → Type 0) (f : ℕ → B) (n : ℕ) → ((p q : F) (k : ℕ) (y : B) → k < n → Keeps p → Called g p (k, tt) y q → (y ≡ f k) × Keeps q)
+    → (p : F) (ys : List B) → Keeps p → IsFromFnResult g p ys n → ys ≡ map f (range_with_len 0 n)
+all_made g Keeps f n call p ys keeps made = fill_by_all f ys n (f 0) made.long (λ k. each_made g Keeps (λ i y. y ≡ f i) n call p ys keeps made k (f 0))

@@ -5,7 +5,7 @@ use Rattle.assessment.specs.Calendar.{days_in, days_of}
 use Rattle.assessment.specs.Rules.{Rule}
 use Rattle.assessment.specs.Days.{Rules}
 use Rattle.assessment.specs.Laws.{LineLaw, LinesLaw}
-use Rattle.assessment.specs.Lines.{figures_in, PoolWithin, RowsWithin, has_hours, assessed_days, state_of, quantity_in, line_of, pool_line, lines_of}
+use Rattle.assessment.specs.Lines.{figures_in, RowsWithin, has_hours, assessed_days, state_of, quantity_in, line_of, pool_line, lines_of}
 use Rattle.assessment.specs.declared.trade_month.TradeMonth.{TradeMonth}
 use Rattle.assessment.specs.Figures.{DayRow}
 use Rattle.assessment.specs.declared.line.LineState.{LineState}
@@ -13,7 +13,6 @@ use Rattle.assessment.specs.declared.line.LineState.TheVariants.{Empty, Charged,
 use Rattle.assessment.proofs.Running.{count_le}
 use Rattle.assessment.proofs.Watts.{div_mono}
 use Rattle.assessment.proofs.Monthly.{Summed, sums_over, sums_more, summed_none, summed_more}
-use Rattle.assessment.proofs.Pools.{each_pool}
 use Rattle.pools.specs.PerPool.{entry_of}
 use Rattle.pools.specs.declared.pool.Pool.{Pool}
 use Rattle.pools.specs.declared.pool.Pool.TheVariants.{Generic, Flexible}
@@ -47,8 +46,7 @@ summed_to p rows w zero h = summed_none p rows
 summed_to p rows w (suc i) h =
     let lt : i < length rows = omega (arith, w.0) in
     let row = get_or rows i None in
-    let within = each_pool (λ q. PoolWithin (entry_of (figures_in row) q)) (w.1 i (omega arith)).0 (w.1 i (omega arith)).1 p in
-    let more = summed_more p rows i None _ (entry_of (figures_in row) p) (sums_over p (take (i + 1) rows)) (summed_to p rows w i (omega arith)) lt refl within (sums_more p rows i None lt) in
+    let more = summed_more p rows i None _ (entry_of (figures_in row) p) (sums_over p (take (i + 1) rows)) (summed_to p rows w i (omega arith)) lt refl (w.1 i (omega arith) p) (sums_more p rows i None lt) in
     subst (λ j. Summed p rows j (sums_over p (take j rows))) (add-one i) more
 
 -- of rows within their limits

@@ -1,7 +1,7 @@
 -- A month's sums over the rows of its days.
 use Rattle.std.proofs.Common.{◌≡◌, ℕ, ◌+◌, ◌*◌, ◌<◌, ◌≤◌, List, length, get_or, take, refl, ap, ◌∙◌, subst, arith, take_all}
 use Rattle.std.proofs.lemmas.List.Sums.{sum_by_more}
-use Rattle.assessment.specs.Lines.{figures_in, PoolWithin, RowWithin, obligation_sum, availability_sum, line_of}
+use Rattle.assessment.specs.Lines.{figures_in, PoolWithin, FiguresWithin, RowWithin, plus, obligation_sum, availability_sum, line_of}
 use Rattle.assessment.specs.Figures.{PoolFigures, DayFigures, DayRow}
 use Rattle.assessment.specs.declared.line.Line.{Line}
 use Rattle.pools.specs.PerPool.{entry_of}
@@ -10,9 +10,6 @@ use Rattle.pools.specs.declared.pool.Pool.{Pool}
 -- a pool's sums over some rows
 abbrev pub sums_over : Pool → List DayRow → PoolFigures
 sums_over p rows = record { obligation = obligation_sum (λ f. entry_of f p) rows; availability = availability_sum (λ f. entry_of f p) rows }
-
-abbrev plus : PoolFigures → PoolFigures → PoolFigures
-plus s day = record { obligation = s.obligation + day.obligation; availability = s.availability + day.availability }
 
 pub sums_more : (p : Pool) (rows : List DayRow) (i : ℕ) (d : DayRow) → i < length rows → sums_over p (take (i + 1) rows) ≡ plus (sums_over p (take i rows)) (entry_of (figures_in (get_or rows i d)) p)
 sums_more p rows i d lt = cc (sum_by_more (λ r. (entry_of (figures_in r) p).obligation) rows i d lt, sum_by_more (λ r. (entry_of (figures_in r) p).availability) rows i d lt)
@@ -42,7 +39,5 @@ summed_all p rows i s n n' l so h e is =
     is ∙ rw (so.is, all, e)
 
 -- a row whose figures are a day result's is within its limits
-pub row_within : (r : DayRow) (f : DayFigures) → f ≡ figures_in r → PoolWithin f.generic → PoolWithin f.flexible → RowWithin r
-row_within r f e p q =
-    let w : PoolWithin f.generic × PoolWithin f.flexible = (p, q) in
-    subst (λ (x : DayFigures). PoolWithin x.generic × PoolWithin x.flexible) e w
+pub row_within : (r : DayRow) (f : DayFigures) → f ≡ figures_in r → FiguresWithin f → RowWithin r
+row_within r f e w = subst FiguresWithin e w

@@ -11,12 +11,12 @@ abbrev pub leap : ℕ → Bool
 leap y = y % 4 == 0 && (not (y % 100 == 0) || y % 400 == 0)
 
 -- the months of 30 days: April, June, September and November
-abbrev pub short : ℕ → Bool
-short m = m == 4 || (m == 6 || (m == 9 || m == 11))
+abbrev pub has_30_days : ℕ → Bool
+has_30_days m = m == 4 || (m == 6 || (m == 9 || m == 11))
 
 -- how many days a month of a year has; February has 28, in a leap year 29
 abbrev pub days_in : ℕ → ℕ → ℕ
-days_in y m = cond (short m) 30 (cond (m == 2) (cond (leap y) 29 28) 31)
+days_in y m = cond (has_30_days m) 30 (cond (m == 2) (cond (leap y) 29 28) 31)
 
 -- days counted from the last day of the year 0, a Sunday, which is day 0
 abbrev pub day_number : ℕ → ℕ → ℕ → ℕ
@@ -63,7 +63,7 @@ work_days m = count_to (works m) (days_of m)
 abbrev pub StartWithin : ℕ → Type 0
 StartWithin start = (1 ≤ start) × (start ≤ 20)
 
--- the years settled are 2018 to 2099
+-- the years settled are 2018 to 2099, and their months 1 to 12
 abbrev pub DateWithin : TradeMonth → Type 0
 DateWithin m = (2018 ≤ m.year) × (m.year ≤ 2099) × (1 ≤ m.month) × (m.month ≤ 12)
 
@@ -71,7 +71,7 @@ DateWithin m = (2018 ≤ m.year) × (m.year ≤ 2099) × (1 ≤ m.month) × (m.m
 abbrev pub MarksWithin : TradeMonth → Type 0
 MarksWithin m = m.holidays / 2 ^ days_of m ≡ 0
 
--- all three windows, whatever the categories in use
+-- all three window starts, whatever the categories in use
 abbrev pub WindowsWithin : TradeMonth → Type 0
 WindowsWithin m = StartWithin m.generic_start × StartWithin m.category2_start × StartWithin m.category3_start
 

@@ -29,7 +29,7 @@ pub record DayCase : Type 0 where
   pub day : ℕ
   pub submission : DaySubmission
 
--- the same from the checked value of the code
+-- the same of a day that the code has checked
 abbrev pub day_case : DayRecord → DayCase
 day_case d = record {
   month = d.day.settings.month;
@@ -44,11 +44,11 @@ net s = s.shown - s.exempt
 
 -- G: the net generic showing
 abbrev pub generic_net : DayCase → ℕ
-generic_net c = net c.submission.generic
+generic_net c = net c.submission.showings.generic
 
 -- Φ: the net flexible showing
 abbrev pub flexible_net : DayCase → ℕ
-flexible_net c = net c.submission.flexible
+flexible_net c = net c.submission.showings.flexible
 
 -- whether the hour is generic: assessed by the generic rule
 abbrev pub generic_in : Rules → DayCase → ℕ → Bool
@@ -118,8 +118,8 @@ hours_to r c p n = totals_to (λ h. hour_of r c p (bids_after c.submission (h - 
 abbrev pub weight : Totals → Totals → ℕ
 weight own other = own.owed * other.hours + other.owed * own.hours
 
--- An amount of kWh as the day's watts. An unassessed pool has none. A pool assessed alone has the mean over
--- its hours. Of two pools each has its part of the larger net showing, M.
+-- An amount of kWh as the day's watts; `own` are the totals of its pool, `other` those of the other one. An unassessed pool
+-- has none. A pool assessed alone has the mean over its hours. Of two pools each has its part of the larger net showing, M.
 abbrev pub figure : ℕ → Totals → Totals → ℕ → ℕ
 figure amount own other largest =
     cond (own.hours == 0) 0
@@ -135,7 +135,7 @@ pool_figures own other largest = record {
 
 -- M: the larger net showing
 abbrev pub larger_net : DaySubmission → ℕ
-larger_net s = max (net s.generic) (net s.flexible)
+larger_net s = max (net s.showings.generic) (net s.showings.flexible)
 
 -- the day's figures under two rules
 unfoldable pub day_figures : Rules → DayCase → DayFigures

@@ -4,11 +4,11 @@ use Rattle.assessment.specs.declared.day_result.Figures.{Figures}
 use Rattle.assessment.specs.declared.line.Line.{Line}
 use Rattle.pools.specs.declared.per_pool.PerPool.{PerPool}
 
--- a pool's figures, of any width
+-- obligation and availability in one pool, in watts
 abbrev pub PoolFigures : Type 0
 PoolFigures = Figures ℕ
 
--- obligation and availability in each pool
+-- the same in each pool
 abbrev pub DayFigures : Type 0
 DayFigures = PerPool PoolFigures
 

@@ -23,8 +23,10 @@ june_2018 = record {
 -- 2 MW generic and 1 MW flexible shown, 1 MW self-scheduled in every hour of both markets
 abbrev pub overlapping : DaySubmission
 overlapping = record {
-  generic = record { shown = 2000; exempt = 0 };
-  flexible = record { shown = 1000; exempt = 0 };
+  showings = record {
+    generic = record { shown = 2000; exempt = 0 };
+    flexible = record { shown = 1000; exempt = 0 };
+  };
   hours = replicate 24 (record {
     day_ahead = record { economic = 0; self_scheduled = 1000 };
     real_time = record { economic = 0; self_scheduled = 1000 };

@@ -25,7 +25,7 @@ pub record DayLaw (r : Rules) (c : DayCase) : Type 0 where
   pub shared : BothAssessed r c → (day_figures r c).generic.obligation + (day_figures r c).flexible.obligation ≤ 1000 * larger_net c.submission
   pub whole : BothAssessed r c → 0 < weight (generic_to r c 24) (flexible_to r c 24) → 1000 * larger_net c.submission < (day_figures r c).generic.obligation + (day_figures r c).flexible.obligation + 2
 
--- That little is lost even where nothing is owed: then nothing is shown.
+-- No more than that is lost even where nothing is owed: then both net showings are 0.
 abbrev pub LittleLost : Rules → DayCase → Type 0
 LittleLost r c = BothAssessed r c → 1000 * larger_net c.submission < (day_figures r c).generic.obligation + (day_figures r c).flexible.obligation + 2
 

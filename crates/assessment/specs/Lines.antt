@@ -1,11 +1,13 @@
 -- A resource's month: the sums of its day rows, and the state and quantity of its two lines.
-use Rattle.std.specs.Prelude.{◌≡◌, ℕ, ◌-◌, ◌*◌, ◌/◌, ◌<◌, ◌≤◌, Bool, cond, ◌||◌, List, length, sum_by, ◌==◌, nat_lt, slice_index_or, None, Some}
+use Rattle.std.specs.Prelude.{◌≡◌, ℕ, ◌+◌, ◌-◌, ◌*◌, ◌/◌, ◌<◌, ◌≤◌, Bool, cond, ◌||◌, List, length, sum_by, ◌==◌, nat_lt, slice_index_or, None, Some}
 use Rattle.assessment.specs.Sums.{count_to}
 use Rattle.assessment.specs.Calendar.{days_of}
 use Rattle.assessment.specs.Rules.{Rule}
 use Rattle.assessment.specs.Days.{Rules}
 use Rattle.assessment.specs.declared.trade_month.TradeMonth.{TradeMonth}
 use Rattle.assessment.specs.Figures.{PoolFigures, DayFigures, DayRow, MonthLines}
+use Rattle.pools.specs.PerPool.{entry_of}
+use Rattle.pools.specs.declared.pool.Pool.{Pool}
 use Rattle.assessment.specs.declared.line.LineState.{LineState}
 use Rattle.assessment.specs.declared.line.LineState.TheVariants.{Empty, Charged, Neutral, Paid}
 use Rattle.assessment.specs.declared.line.Line.{Line}
@@ -26,13 +28,21 @@ figures_in (Some f) = f
 abbrev pub PoolWithin : PoolFigures → Type 0
 PoolWithin p = (p.availability ≤ p.obligation) × (p.obligation ≤ 2000000000)
 
--- a row of a day table is within these limits in both pools
+-- these limits in both pools
+abbrev pub FiguresWithin : DayFigures → Type 0
+FiguresWithin f = (p : Pool) → PoolWithin (entry_of f p)
+
+-- a row of a day table is within them
 abbrev pub RowWithin : DayRow → Type 0
-RowWithin r = PoolWithin (figures_in r).generic × PoolWithin (figures_in r).flexible
+RowWithin r = FiguresWithin (figures_in r)
 
 -- a resource has 31 day places, each within its limits
 abbrev pub RowsWithin : List DayRow → Type 0
 RowsWithin rows = (length rows ≡ 31) × ((k : ℕ) → k < 31 → RowWithin (slice_index_or rows k None))
+
+-- two figures together
+abbrev pub plus : PoolFigures → PoolFigures → PoolFigures
+plus a b = record { obligation = a.obligation + b.obligation; availability = a.availability + b.availability }
 
 -- O: the obligation of a pool, which `pool` picks, summed over the rows
 abbrev pub obligation_sum : (DayFigures → PoolFigures) → List DayRow → ℕ

@@ -1,5 +1,5 @@
 -- The limits of a resource's day, and which breach is reported.
-use Rattle.std.specs.Prelude.{◌≡◌, ℕ, ◌<◌, ◌≤◌, slice_index_or}
+use Rattle.std.specs.Prelude.{◌≡◌, ℕ, ◌<◌, ◌≤◌, List, slice_index, slice_index_or}
 use Rattle.assessment.specs.declared.submission.HourBids.{HourBids}
 use Rattle.assessment.specs.declared.submission.Showing.{Showing}
 use Rattle.assessment.specs.declared.submission.DaySubmission.{DaySubmission}
@@ -23,6 +23,13 @@ no_bids = record {
   real_time = record { economic = 0; self_scheduled = 0 };
 }
 
+-- the bids of an hour from four numbers: day-ahead, then real-time, each economic and then self-scheduled
+abbrev pub bids_told : List ℕ → HourBids
+bids_told ns = record {
+  day_ahead = record { economic = slice_index ns 0; self_scheduled = slice_index ns 1 };
+  real_time = record { economic = slice_index ns 2; self_scheduled = slice_index ns 3 };
+}
+
 -- the bids after n hours: those of hour ending n + 1
 abbrev pub bids_after : DaySubmission → ℕ → HourBids
 bids_after d n = slice_index_or d.hours n no_bids
@@ -33,15 +40,15 @@ BidsWithin d = (n : ℕ) → n < 24 → HourWithin (bids_after d n)
 
 -- both showings
 abbrev pub ShowingsWithin : DaySubmission → Type 0
-ShowingsWithin d = ShowingWithin d.generic × ShowingWithin d.flexible
+ShowingsWithin d = ShowingWithin d.showings.generic × ShowingWithin d.showings.flexible
 
 -- no exemption passes its showing
 abbrev pub ExemptionsWithin : DaySubmission → Type 0
-ExemptionsWithin d = (d.generic.exempt ≤ d.generic.shown) × (d.flexible.exempt ≤ d.flexible.shown)
+ExemptionsWithin d = (d.showings.generic.exempt ≤ d.showings.generic.shown) × (d.showings.flexible.exempt ≤ d.showings.flexible.shown)
 
 -- category 0 shows no flexible capacity
 abbrev pub FlexibleAllowed : ℕ → DaySubmission → Type 0
-FlexibleAllowed category d = category ≡ 0 → d.flexible.shown ≡ 0
+FlexibleAllowed category d = category ≡ 0 → d.showings.flexible.shown ≡ 0
 
 -- a breach is reported only where the tests before it passed
 abbrev pub Breaks : ℕ → DaySubmission → DayBreach → Type 0

@@ -28,7 +28,7 @@ fn windows_within(month: &TradeMonth) -> bool
 
 impl MonthSettings {
     // The settings of a month within its limits; None where one is broken.
-    // No TryFrom, as this is no mere conversion: it works out the month's calendar too.
+    // No TryFrom: its error would tell no more than the None, and each caller names a fault of its own.
     pub fn new(month: TradeMonth) -> Option<MonthSettings>
         ensures { MatchOption result (MonthWithin month → ⊥) (λ s. s.month ≡ month) }
     {

@@ -3,9 +3,10 @@ ghost use Rattle.std.specs.Prelude.{◌≡◌, ◌<◌, ◌≤◌, MatchResult};
 
 use pools::out_of_range::OutOfRange;
 
-pub const MOST_CATEGORY: u32 = 3;
+const MOST_CATEGORY: u32 = 3;
 
-// 0: no flexible capacity; 1: base; 2: peak; 3: super-peak. A number, as the rules speak of ranges of categories.
+// 0: no flexible capacity; 1: base; 2: peak; 3: super-peak. A number, as the rules name
+// categories by number, and choose hours by a match over it (docs/DECISIONS.md).
 #[derive(Clone, Copy, PartialEq, Eq, Debug)]
 pub struct Category {
     pub number: u32,

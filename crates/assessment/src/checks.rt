@@ -1,11 +1,12 @@
 // The check that turns a day submission into a day record.
 ghost use Rattle.std.specs.Prelude.{◌≡◌, ◌≤◌, MatchBool, MatchResult};
-ghost use Rattle.assessment.specs.Records.{HourWithin, ShowingWithin, BidsWithin, ExemptionsWithin, Breaks};
+ghost use Rattle.assessment.specs.Records.{HourWithin, ShowingWithin, ShowingsWithin, BidsWithin, ExemptionsWithin, Breaks};
 
 use crate::category::Category;
 use crate::day_record::DayRecord;
 use crate::settings::TradeDay;
 use crate::submission::{Bid, DayBreach, DaySubmission, HourBids, Showing};
+use pools::pool::Pool;
 
 const MOST_KILOWATTS: u32 = 2_000_000;
 
@@ -28,18 +29,27 @@ fn bids_within(submission: &DaySubmission) -> bool
     submission.hours.iter().all(hour_within)
 }
 
-fn showing_within(showing: &Showing) -> bool
-    ensures { MatchBool result (ShowingWithin showing.now) (ShowingWithin showing.now → ⊥) }
+fn showing_within(showing: Showing) -> bool
+    ensures { MatchBool result (ShowingWithin showing) (ShowingWithin showing → ⊥) }
 {
     showing.shown <= MOST_KILOWATTS && showing.exempt <= MOST_KILOWATTS
 }
 
-// Here and below each pool by its name, as a day submission has no table by pool.
+fn showings_within(submission: &DaySubmission) -> bool
+    ensures { MatchBool result (ShowingsWithin submission.now) (ShowingsWithin submission.now → ⊥) }
+{
+    Pool::ALL
+        .iter()
+        .all(|pool| showing_within(submission.showings.get(*pool)))
+}
+
 fn exemptions_within(submission: &DaySubmission) -> bool
     ensures { MatchBool result (ExemptionsWithin submission.now) (ExemptionsWithin submission.now → ⊥) }
 {
-    submission.generic.exempt <= submission.generic.shown
-        && submission.flexible.exempt <= submission.flexible.shown
+    Pool::ALL.iter().all(|pool| {
+        let showing = submission.showings.get(*pool);
+        showing.exempt <= showing.shown
+    })
 }
 
 impl DayRecord {
@@ -51,16 +61,13 @@ impl DayRecord {
     ) -> Result<DayRecord, DayBreach>
         ensures { MatchResult result (λ d. (d.day ≡ day) × (d.category ≡ category) × (d.submission ≡ submission.now)) (Breaks category.number submission.now) }
     {
-        if !showing_within(&submission.generic)
-            || !showing_within(&submission.flexible)
-            || !bids_within(submission)
-        {
+        if !showings_within(submission) || !bids_within(submission) {
             return Err(DayBreach::KilowattsOverLimit);
         }
         if !exemptions_within(submission) {
             return Err(DayBreach::ExemptionOverShowing);
         }
-        if category.number == 0 && submission.flexible.shown != 0 {
+        if category.number == 0 && submission.showings.flexible.shown != 0 {
             return Err(DayBreach::FlexibleInCategory0);
         }
         Ok(DayRecord {

@@ -6,18 +6,18 @@ ghost use Rattle.assessment.specs.Lines.{PoolWithin};
 ghost use Rattle.assessment.specs.Pairs.{rules_of};
 ghost use Rattle.assessment.specs.Totals.{totals_of};
 
-use crate::day_record::DayRecord;
+use crate::day_record::{DayRecord, LargerNet};
 use crate::day_result::{DayFigures, DayResult, PoolFigures};
 use crate::rule::AvailabilityRule;
 use crate::rule_pair::RulePair;
 use crate::totals::PoolTotals;
 
-// Exact products first, then one division. The three after the amount only pass on what `pool_day` was given: no struct for them.
-fn watts(amount: u64, own: PoolTotals, other: PoolTotals, largest: u64) -> u64
-    requires owed { amount ≤ own.owed }
-    requires shown { largest ≤ 2000000 }
-    ensures is { result ≡ figure amount (totals_of own) (totals_of other) largest }
-    ensures grows { result ≤ figure own.owed (totals_of own) (totals_of other) largest }
+// An amount of kWh as the day's watts. Exact products first, then one division. What follows the amount is what `pool_day`
+// takes: a struct of the three would be made there and taken apart here.
+fn watts(amount: u64, own: PoolTotals, other: PoolTotals, largest: LargerNet) -> u64
+    requires { amount ≤ own.owed }
+    ensures is { result ≡ figure amount (totals_of own) (totals_of other) largest.kilowatts }
+    ensures grows { result ≤ figure own.owed (totals_of own) (totals_of other) largest.kilowatts }
     ensures capped { result ≤ 2000000000 }
 {
     match (own.hours, other.hours) {
@@ -28,15 +28,14 @@ fn watts(amount: u64, own: PoolTotals, other: PoolTotals, largest: u64) -> u64
             if weight == 0 {
                 0
             } else {
-                1000 * amount * other_hours * largest / weight
+                1000 * amount * other_hours * largest.kilowatts / weight
             }
         }
     }
 }
 
-fn pool_day(own: PoolTotals, other: PoolTotals, largest: u64) -> PoolFigures
-    requires { largest ≤ 2000000 }
-    ensures is { result ≡ pool_figures (totals_of own) (totals_of other) largest }
+fn pool_day(own: PoolTotals, other: PoolTotals, largest: LargerNet) -> PoolFigures
+    ensures is { result ≡ pool_figures (totals_of own) (totals_of other) largest.kilowatts }
     ensures within { PoolWithin result }
 {
     let obligation = watts(own.owed, own, other, largest);
@@ -57,7 +56,7 @@ impl<G: AvailabilityRule, F: AvailabilityRule> RulePair<G, F> {
         ensures little_lost { LittleLost (rules_of G.means F.means self.now) (day_case submitted.now) }
     {
         let totals = self.assess_hours(submitted);
-        let largest = submitted.submission.larger_net();
+        let largest = submitted.larger_net();
         // By name, as each pool is weighed with the other: a closure by pool would have to choose the other.
         DayResult {
             figures: DayFigures {

@@ -1,8 +1,9 @@
 // What is owed and available in watts: of a day as plain rows of a day table, as a day result within its limits, and in sums.
-ghost use Rattle.std.specs.Prelude.{◌≡◌};
-ghost use Rattle.assessment.specs.Lines.{PoolWithin};
+ghost use Rattle.std.specs.Prelude.{◌≡◌, ◌+◌, ◌<◌, ◌^◌};
+ghost use Rattle.assessment.specs.Lines.{FiguresWithin, plus};
 
 use pools::per_pool::PerPool;
+use std::ops::Add;
 
 #[derive(Clone, Copy, Default, PartialEq, Eq, Debug)]
 pub struct Figures<N> {
@@ -17,12 +18,27 @@ pub type PoolFigures = Figures<u32>;
 pub type Watts = Figures<u64>;
 
 impl From<PoolFigures> for Watts {
-    ghost from_gives = { λ day sums. sums ≡ day };
+    ghost from_gives = { λ day sums. (sums ≡ day) × (sums.obligation < 2 ^ 32) × (sums.availability < 2 ^ 32) };
 
     fn from(day: PoolFigures) -> Watts {
         Watts {
             obligation: u64::from(day.obligation),
             availability: u64::from(day.availability),
+        }
+    }
+}
+
+impl Add for Watts {
+    type Output = Watts;
+
+    ghost can_add = { λ a b. (a.obligation + b.obligation < 2 ^ 64) × (a.availability + b.availability < 2 ^ 64) };
+
+    ghost add_gives = { λ a b r. r ≡ plus a b };
+
+    fn add(self, other: Watts) -> Watts {
+        Watts {
+            obligation: self.obligation + other.obligation,
+            availability: self.availability + other.availability,
         }
     }
 }
@@ -38,6 +54,5 @@ pub const DAY_PLACES: usize = 31;
 #[derive(Clone, Copy, PartialEq, Eq, Debug)]
 pub struct DayResult {
     pub figures: DayFigures,
-    ghost generic_within: { PoolWithin figures.generic },
-    ghost flexible_within: { PoolWithin figures.flexible },
+    ghost within: { FiguresWithin figures },
 }

@@ -12,6 +12,7 @@ use crate::rule_pair::RulePair;
 use crate::submission::{Bid, HourBids};
 use crate::totals::PoolTotals;
 use pools::per_pool::PerPool;
+use pools::pool::Pool;
 
 // An hour's kW in each pool: what is owed, or what a market gives.
 type Kilowatts = PerPool<u32>;
@@ -62,20 +63,15 @@ impl<G: AvailabilityRule, F: AvailabilityRule> RulePair<G, F> {
         ensures flexible_is { unwrap_or result.flexible 0 ≡ flexible_due (rules_of G.means F.means self.now) (day_case submitted.now) hour }
         ensures capped { (p : Pool) → unwrap_or (entry_of result p) 0 ≤ 2000000 }
     {
-        let DayRecord {
-            day,
-            category,
-            submission,
-        } = submitted;
         let flexible = self
             .flexible
-            .assesses(day, *category, hour)
-            .then(|| submission.flexible.net());
+            .assesses(&submitted.day, submitted.category, hour)
+            .then(|| submitted.net(Pool::Flexible));
         let first = flexible.unwrap_or(0);
         let generic = self
             .generic
-            .assesses(day, *category, hour)
-            .then(|| submission.generic.net().saturating_sub(first));
+            .assesses(&submitted.day, submitted.category, hour)
+            .then(|| submitted.net(Pool::Generic).saturating_sub(first));
         PerPool { generic, flexible }
     }
 

@@ -1,17 +1,18 @@
 // A line: one resource's month in one pool.
 use pools::per_pool::PerPool;
 
-#[derive(Clone, Copy, PartialEq, Eq, Debug)]
+#[derive(Clone, Copy, Default, PartialEq, Eq, Debug)]
 pub enum LineState {
+    #[default]
     Empty,
     Charged,
     Neutral,
     Paid,
 }
 
-#[derive(Clone, Copy, PartialEq, Eq, Debug)]
+#[derive(Clone, Copy, Default, PartialEq, Eq, Debug)]
 pub struct Line {
-    // Watts, summed over the month's days.
+    // Watts, summed over the month's days. Flat, and no `Watts`, as the line table has a column for each.
     pub obligation: u64,
     pub availability: u64,
     // The days of the month on which the pool's rule has hours.

@@ -1,7 +1,7 @@
 // A resource's month by any two rules: its two lines, from its 31 day places.
 ghost use Rattle.std.specs.Prelude.{◌≡◌, ◌+◌, ◌*◌, ◌≤◌, IfSome, MatchOption};
 ghost use Rattle.assessment.specs.Laws.{LinesLaw};
-ghost use Rattle.assessment.specs.Lines.{RowsWithin, has_hours, assessed_days, line_of, lines_of};
+ghost use Rattle.assessment.specs.Lines.{RowsWithin, plus, has_hours, assessed_days, line_of, lines_of};
 ghost use Rattle.assessment.specs.Pairs.{rules_of};
 
 use crate::category::Category;
@@ -10,11 +10,12 @@ use crate::line::{Line, LineState, MonthLines};
 use crate::rule::AvailabilityRule;
 use crate::rule_pair::RulePair;
 use crate::settings::{MonthSettings, TradeDay};
+use crate::submission::HOURS;
 use pools::per_pool::PerPool;
 use std::ops::Add;
 
-// The last hour ending of a day: a u32 as every hour ending is, where `submission::HOURS` is an array's length.
-const LAST_HOUR: u32 = 24;
+// The last hour ending of a day.
+const LAST_HOUR: u32 = HOURS as u32;
 
 fn rule_has_hours<R: AvailabilityRule>(rule: &R, day: &TradeDay, category: Category) -> bool
     ensures { result ≡ has_hours (R.means rule.now) day.now.settings.month category.number day.now.day }
@@ -25,6 +26,7 @@ fn rule_has_hours<R: AvailabilityRule>(rule: &R, day: &TradeDay, category: Categ
 fn days_assessed<R: AvailabilityRule>(rule: &R, settings: &MonthSettings, category: Category) -> u32
     ensures { result ≡ assessed_days (R.means rule.now) settings.now.month category.number }
 {
+    // The chain of `MonthSettings::work_days` with another test: a function of both would take a closure, and a clause for it.
     // `as` narrows a count of at most 31, so a TryFrom would have nothing to refuse.
     (1..=settings.days)
         .filter(|day| rule_has_hours(rule, &settings.trade_day(*day), category))
@@ -55,15 +57,11 @@ impl Add<PoolFigures> for MonthSum {
 
     ghost can_add = { λ sum day. (day.availability ≤ day.obligation) × (sum.watts.obligation + day.obligation ≤ 62000000000) };
 
-    ghost add_gives = { λ sum day r. r.watts ≡ record { obligation = sum.watts.obligation + day.obligation; availability = sum.watts.availability + day.availability } };
+    ghost add_gives = { λ sum day r. r.watts ≡ plus sum.watts day };
 
     fn add(self, day: PoolFigures) -> MonthSum {
-        let day = Watts::from(day);
         MonthSum {
-            watts: Watts {
-                obligation: self.watts.obligation + day.obligation,
-                availability: self.watts.availability + day.availability,
-            },
+            watts: self.watts + Watts::from(day),
         }
     }
 }

@@ -1,8 +1,8 @@
 // Day results as rows of a day table, and rows checked into day results.
 ghost use Rattle.std.specs.Prelude.{◌≡◌, MatchBool, MatchOption};
-ghost use Rattle.assessment.specs.Lines.{figures_in, PoolWithin, RowWithin};
+ghost use Rattle.assessment.specs.Lines.{figures_in, PoolWithin, FiguresWithin, RowWithin};
 
-use crate::day_result::{DayResult, DayRow, PoolFigures};
+use crate::day_result::{DayFigures, DayResult, DayRow, PoolFigures};
 use pools::pool::Pool;
 
 const MOST_WATTS: u32 = 2_000_000_000;
@@ -11,6 +11,12 @@ fn pool_within(figures: PoolFigures) -> bool
     ensures { MatchBool result (PoolWithin figures) (PoolWithin figures → ⊥) }
 {
     figures.availability <= figures.obligation && figures.obligation <= MOST_WATTS
+}
+
+fn each_within(figures: &DayFigures) -> bool
+    ensures { MatchBool result (FiguresWithin figures.now) (FiguresWithin figures.now → ⊥) }
+{
+    Pool::ALL.iter().all(|pool| pool_within(figures.get(*pool)))
 }
 
 impl DayResult {
@@ -27,7 +33,7 @@ impl DayResult {
         ensures { MatchOption result (RowWithin row → ⊥) (λ d. d.figures ≡ figures_in row) }
     {
         let figures = row.unwrap_or_default();
-        if !Pool::ALL.iter().all(|pool| pool_within(figures.get(*pool))) {
+        if !each_within(&figures) {
             return None;
         }
         Some(DayResult { figures })

@@ -1,6 +1,7 @@
 // A resource's day as it is handed in, in kW: plain numbers, not yet checked.
 ghost use Rattle.std.specs.Prelude.{◌≡◌};
 
+use pools::per_pool::PerPool;
 use thiserror::Error;
 
 // What is offered into a market in an hour.
@@ -28,6 +29,27 @@ impl From<Bid> for HourBids {
     }
 }
 
+// The bids of an hour as four numbers: day-ahead, then real-time, each economic and then self-scheduled.
+impl From<[u32; 4]> for HourBids {
+    ghost use Rattle.assessment.specs.Records.{bids_told};
+
+    ghost from_gives = { λ numbers bids. bids ≡ bids_told numbers };
+
+    fn from(numbers: [u32; 4]) -> HourBids {
+        let [de, ds, re, rs] = numbers;
+        HourBids {
+            day_ahead: Bid {
+                economic: de,
+                self_scheduled: ds,
+            },
+            real_time: Bid {
+                economic: re,
+                self_scheduled: rs,
+            },
+        }
+    }
+}
+
 // The capacity shown in a pool, and the part of it that is exempt.
 #[derive(Clone, Copy, PartialEq, Eq, Debug)]
 pub struct Showing {
@@ -35,37 +57,14 @@ pub struct Showing {
     pub exempt: u32,
 }
 
-impl Showing {
-    ghost use Rattle.assessment.specs.Days.{net};
-
-    // What is shown less what is exempt.
-    pub(crate) fn net(self) -> u32
-        ensures { result ≡ net self }
-    {
-        self.shown.saturating_sub(self.exempt)
-    }
-}
-
 // The hours of a day, each of them with bids.
 pub const HOURS: usize = 24;
 
 #[derive(Clone, Copy, PartialEq, Eq, Debug)]
 pub struct DaySubmission {
-    // By name, no table by pool: `larger_net` and `due_in` ask each by its name, and no code asks by a pool that it is given.
-    pub generic: Showing,
-    pub flexible: Showing,
+    pub showings: PerPool<Showing>,
     // By hour ending: the first entry is hour ending 1.
     pub hours: [HourBids; HOURS],
-}
-
-impl DaySubmission {
-    ghost use Rattle.assessment.specs.Days.{larger_net};
-
-    pub(crate) fn larger_net(&self) -> u64
-        ensures { result ≡ larger_net self.now }
-    {
-        u64::from(self.generic.net().max(self.flexible.net()))
-    }
 }
 
 // What a day submission breaks, in the order in which it is tested.

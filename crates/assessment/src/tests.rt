@@ -6,6 +6,7 @@ use crate::rule_pair::SHIPPED_RULES;
 use crate::settings::MonthSettings;
 use crate::submission::{Bid, DayBreach, DaySubmission, HOURS, HourBids, Showing};
 use crate::trade_month::TradeMonth;
+use pools::per_pool::PerPool;
 use std::test::Fail;
 
 const JUNE: TradeMonth = TradeMonth {
@@ -23,8 +24,7 @@ fn is_taken(month: TradeMonth) -> bool {
 
 fn submission(generic: Showing, flexible: Showing, bid: Bid) -> DaySubmission {
     DaySubmission {
-        generic,
-        flexible,
+        showings: PerPool { generic, flexible },
         hours: [HourBids::from(bid); HOURS],
     }
 }

@@ -1,4 +1,4 @@
--- What each reading counts.
+-- What each reading counts: watts, days, or a share.
 use Rattle.examples.specs.declared.measure.Measure.{Measure}
 use Rattle.examples.specs.declared.measure.Measure.TheVariants as measure
 use Rattle.examples.specs.declared.reading.DayReading.{DayReading}

@@ -37,8 +37,10 @@ hours_of offer = map (λ passed. alike (bid_in offer (passed + 1))) (range_with_
 -- what a plan submits; nothing is exempt
 abbrev pub submission_of : Plan → DaySubmission
 submission_of p = record {
-  generic = record { shown = p.generic; exempt = 0 };
-  flexible = record { shown = p.flexible; exempt = 0 };
+  showings = record {
+    generic = record { shown = p.shown.generic; exempt = 0 };
+    flexible = record { shown = p.shown.flexible; exempt = 0 };
+  };
   hours = hours_of p.offer;
 }
 

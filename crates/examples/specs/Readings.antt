@@ -1,6 +1,7 @@
 -- What is read from a day's figures and from a month's lines.
-use Rattle.std.specs.Prelude.{◌≡◌, ℕ, ◌+◌, ◌*◌, ◌/◌, ◌^◌, ◌≤◌, cond, ◌==◌}
+use Rattle.std.specs.Prelude.{◌≡◌, ℕ, ◌*◌, ◌/◌, ◌^◌, ◌≤◌, cond, ◌==◌}
 use Rattle.assessment.specs.Figures.{PoolFigures, DayFigures}
+use Rattle.assessment.specs.Lines.{plus}
 use Rattle.assessment.specs.declared.line.Line.{Line}
 use Rattle.examples.specs.declared.refusal.Refusal.{Refusal}
 use Rattle.examples.specs.declared.refusal.Refusal.TheVariants.{TooLarge}
@@ -31,10 +32,7 @@ average watts days = cond (days == 0) 0 (watts / days)
 -- a day's watts in a pool, or in both together
 abbrev pub in_part : DayFigures → Part → PoolFigures
 in_part f (part.Of pool) = entry_of f pool
-in_part f part.Combined = record {
-  obligation = f.generic.obligation + f.flexible.obligation;
-  availability = f.generic.availability + f.flexible.availability;
-}
+in_part f part.Combined = plus f.generic f.flexible
 
 -- what each reading tells of them
 abbrev pub from_day : PoolFigures → DayReading → ℕ

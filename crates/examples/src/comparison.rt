@@ -19,11 +19,13 @@ pub struct Comparison {
     pub published: Option<Published>,
 }
 
-// Whether a figure is less than one unit from the published one.
-fn agrees(figure: u64, published: u64, unit: u64) -> bool
-    ensures { result ≡ close figure published unit }
-{
-    figure.abs_diff(published) < unit
+impl Published {
+    // Whether a figure is less than one unit from the published one.
+    fn agrees(&self, figure: u64) -> bool
+        ensures { result ≡ close figure self.now.value self.now.unit }
+    {
+        figure.abs_diff(self.value) < self.unit
+    }
 }
 
 impl Comparison {
@@ -31,10 +33,7 @@ impl Comparison {
     pub(crate) fn holds(&self) -> bool
         ensures { result ≡ meets self.now }
     {
-        self.figure == self.exact
-            && self
-                .published
-                .is_none_or(|known| agrees(self.figure, known.value, known.unit))
+        self.figure == self.exact && self.published.is_none_or(|known| known.agrees(self.figure))
     }
 }
 

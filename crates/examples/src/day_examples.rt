@@ -9,6 +9,7 @@ use crate::published::{
 };
 use crate::reading::{DayReading, Part};
 use assessment::submission::Bid;
+use pools::per_pool::PerPool;
 use pools::pool::Pool;
 
 pub static DAY_EXAMPLES: [Example<PlannedDay, DayReading>; 10] = [
@@ -19,8 +20,10 @@ pub static DAY_EXAMPLES: [Example<PlannedDay, DayReading>; 10] = [
             day: 4,
             plan: Plan {
                 category: 1,
-                generic: 1_000,
-                flexible: 0,
+                shown: PerPool {
+                    generic: 1_000,
+                    flexible: 0,
+                },
                 offer: Offer::EveryHour(NOTHING),
             },
         },
@@ -59,8 +62,10 @@ pub static DAY_EXAMPLES: [Example<PlannedDay, DayReading>; 10] = [
             day: 2,
             plan: Plan {
                 category: 1,
-                generic: 0,
-                flexible: 1_000,
+                shown: PerPool {
+                    generic: 0,
+                    flexible: 1_000,
+                },
                 offer: Offer::EveryHour(Bid {
                     economic: 1_000,
                     self_scheduled: 0,
@@ -102,8 +107,10 @@ pub static DAY_EXAMPLES: [Example<PlannedDay, DayReading>; 10] = [
             day: 5,
             plan: Plan {
                 category: 1,
-                generic: 1_000,
-                flexible: 0,
+                shown: PerPool {
+                    generic: 1_000,
+                    flexible: 0,
+                },
                 offer: Offer::EveryHour(Bid {
                     economic: 1_000,
                     self_scheduled: 0,
@@ -145,8 +152,10 @@ pub static DAY_EXAMPLES: [Example<PlannedDay, DayReading>; 10] = [
             day: 4,
             plan: Plan {
                 category: 1,
-                generic: 2_000,
-                flexible: 1_000,
+                shown: PerPool {
+                    generic: 2_000,
+                    flexible: 1_000,
+                },
                 offer: Offer::EveryHour(Bid {
                     economic: 0,
                     self_scheduled: 2_000,
@@ -200,8 +209,10 @@ pub static DAY_EXAMPLES: [Example<PlannedDay, DayReading>; 10] = [
             day: 4,
             plan: Plan {
                 category: 2,
-                generic: 2_000,
-                flexible: 1_000,
+                shown: PerPool {
+                    generic: 2_000,
+                    flexible: 1_000,
+                },
                 offer: Offer::EveryHour(Bid {
                     economic: 0,
                     self_scheduled: 1_000,
@@ -249,8 +260,10 @@ pub static DAY_EXAMPLES: [Example<PlannedDay, DayReading>; 10] = [
             day: 4,
             plan: Plan {
                 category: 1,
-                generic: 25_000,
-                flexible: 5_000,
+                shown: PerPool {
+                    generic: 25_000,
+                    flexible: 5_000,
+                },
                 offer: Offer::EveryHour(Bid {
                     economic: 25_000,
                     self_scheduled: 0,
@@ -292,8 +305,10 @@ pub static DAY_EXAMPLES: [Example<PlannedDay, DayReading>; 10] = [
             day: 4,
             plan: Plan {
                 category: 1,
-                generic: 100_000,
-                flexible: 50_000,
+                shown: PerPool {
+                    generic: 100_000,
+                    flexible: 50_000,
+                },
                 offer: Offer::EveryHour(Bid {
                     economic: 0,
                     self_scheduled: 100_000,
@@ -335,8 +350,10 @@ pub static DAY_EXAMPLES: [Example<PlannedDay, DayReading>; 10] = [
             day: 4,
             plan: Plan {
                 category: 2,
-                generic: 100_000,
-                flexible: 100_000,
+                shown: PerPool {
+                    generic: 100_000,
+                    flexible: 100_000,
+                },
                 offer: Offer::EveryHour(NOTHING),
             },
         },
@@ -381,8 +398,10 @@ pub static DAY_EXAMPLES: [Example<PlannedDay, DayReading>; 10] = [
             day: 4,
             plan: Plan {
                 category: 0,
-                generic: 100_000,
-                flexible: 0,
+                shown: PerPool {
+                    generic: 100_000,
+                    flexible: 0,
+                },
                 offer: Offer::AllBut(
                     18,
                     Bid {
@@ -433,8 +452,10 @@ pub static DAY_EXAMPLES: [Example<PlannedDay, DayReading>; 10] = [
             day: 4,
             plan: Plan {
                 category: 1,
-                generic: 100_000,
-                flexible: 70_000,
+                shown: PerPool {
+                    generic: 100_000,
+                    flexible: 70_000,
+                },
                 offer: Offer::EveryHour(Bid {
                     economic: 10_000,
                     self_scheduled: 90_000,

@@ -6,6 +6,7 @@ use crate::published::{MW_0_95, MW_1, MW_20_55, PER_CENT_50};
 use crate::reading::LineReading;
 use crate::stretch::{PlannedMonth, Stretch};
 use assessment::submission::Bid;
+use pools::per_pool::PerPool;
 use pools::pool::Pool;
 
 pub static MONTH_EXAMPLES: [Example<PlannedMonth, LineReading>; 6] = [
@@ -20,8 +21,10 @@ pub static MONTH_EXAMPLES: [Example<PlannedMonth, LineReading>; 6] = [
                     last: 4,
                     plan: Plan {
                         category: 1,
-                        generic: 1_000,
-                        flexible: 0,
+                        shown: PerPool {
+                            generic: 1_000,
+                            flexible: 0,
+                        },
                         offer: Offer::EveryHour(NOTHING),
                     },
                 },
@@ -30,8 +33,10 @@ pub static MONTH_EXAMPLES: [Example<PlannedMonth, LineReading>; 6] = [
                     last: 5,
                     plan: Plan {
                         category: 1,
-                        generic: 1_000,
-                        flexible: 0,
+                        shown: PerPool {
+                            generic: 1_000,
+                            flexible: 0,
+                        },
                         offer: Offer::EveryHour(Bid {
                             economic: 1_000,
                             self_scheduled: 0,
@@ -72,8 +77,10 @@ pub static MONTH_EXAMPLES: [Example<PlannedMonth, LineReading>; 6] = [
                 last: 5,
                 plan: Plan {
                     category: 0,
-                    generic: 10_000,
-                    flexible: 0,
+                    shown: PerPool {
+                        generic: 10_000,
+                        flexible: 0,
+                    },
                     offer: Offer::EveryHour(NOTHING),
                 },
             }],
@@ -110,8 +117,10 @@ pub static MONTH_EXAMPLES: [Example<PlannedMonth, LineReading>; 6] = [
                 last: 3,
                 plan: Plan {
                     category: 1,
-                    generic: 0,
-                    flexible: 10_000,
+                    shown: PerPool {
+                        generic: 0,
+                        flexible: 10_000,
+                    },
                     offer: Offer::EveryHour(NOTHING),
                 },
             }],
@@ -149,8 +158,10 @@ pub static MONTH_EXAMPLES: [Example<PlannedMonth, LineReading>; 6] = [
                     last: 3,
                     plan: Plan {
                         category: 0,
-                        generic: 100_000,
-                        flexible: 0,
+                        shown: PerPool {
+                            generic: 100_000,
+                            flexible: 0,
+                        },
                         offer: Offer::EveryHour(Bid {
                             economic: 100_000,
                             self_scheduled: 0,
@@ -162,8 +173,10 @@ pub static MONTH_EXAMPLES: [Example<PlannedMonth, LineReading>; 6] = [
                     last: 8,
                     plan: Plan {
                         category: 0,
-                        generic: 100_000,
-                        flexible: 0,
+                        shown: PerPool {
+                            generic: 100_000,
+                            flexible: 0,
+                        },
                         offer: Offer::EveryHour(NOTHING),
                     },
                 },
@@ -172,8 +185,10 @@ pub static MONTH_EXAMPLES: [Example<PlannedMonth, LineReading>; 6] = [
                     last: 30,
                     plan: Plan {
                         category: 0,
-                        generic: 100_000,
-                        flexible: 0,
+                        shown: PerPool {
+                            generic: 100_000,
+                            flexible: 0,
+                        },
                         offer: Offer::EveryHour(Bid {
                             economic: 100_000,
                             self_scheduled: 0,
@@ -221,8 +236,10 @@ pub static MONTH_EXAMPLES: [Example<PlannedMonth, LineReading>; 6] = [
                     last: 3,
                     plan: Plan {
                         category: 1,
-                        generic: 100_000,
-                        flexible: 1_000,
+                        shown: PerPool {
+                            generic: 100_000,
+                            flexible: 1_000,
+                        },
                         offer: Offer::EveryHour(Bid {
                             economic: 100_000,
                             self_scheduled: 0,
@@ -234,8 +251,10 @@ pub static MONTH_EXAMPLES: [Example<PlannedMonth, LineReading>; 6] = [
                     last: 8,
                     plan: Plan {
                         category: 1,
-                        generic: 100_000,
-                        flexible: 1_000,
+                        shown: PerPool {
+                            generic: 100_000,
+                            flexible: 1_000,
+                        },
                         offer: Offer::EveryHour(NOTHING),
                     },
                 },
@@ -244,8 +263,10 @@ pub static MONTH_EXAMPLES: [Example<PlannedMonth, LineReading>; 6] = [
                     last: 30,
                     plan: Plan {
                         category: 1,
-                        generic: 100_000,
-                        flexible: 1_000,
+                        shown: PerPool {
+                            generic: 100_000,
+                            flexible: 1_000,
+                        },
                         offer: Offer::EveryHour(Bid {
                             economic: 100_000,
                             self_scheduled: 0,
@@ -317,8 +338,10 @@ pub static MONTH_EXAMPLES: [Example<PlannedMonth, LineReading>; 6] = [
                     last: 4,
                     plan: Plan {
                         category: 0,
-                        generic: 100_000,
-                        flexible: 0,
+                        shown: PerPool {
+                            generic: 100_000,
+                            flexible: 0,
+                        },
                         offer: Offer::EveryHour(Bid {
                             economic: 0,
                             self_scheduled: 100_000,
@@ -330,8 +353,10 @@ pub static MONTH_EXAMPLES: [Example<PlannedMonth, LineReading>; 6] = [
                     last: 5,
                     plan: Plan {
                         category: 0,
-                        generic: 100_000,
-                        flexible: 0,
+                        shown: PerPool {
+                            generic: 100_000,
+                            flexible: 0,
+                        },
                         offer: Offer::Until(
                             14,
                             Bid {
@@ -350,8 +375,10 @@ pub static MONTH_EXAMPLES: [Example<PlannedMonth, LineReading>; 6] = [
                     last: 10,
                     plan: Plan {
                         category: 0,
-                        generic: 100_000,
-                        flexible: 0,
+                        shown: PerPool {
+                            generic: 100_000,
+                            flexible: 0,
+                        },
                         offer: Offer::EveryHour(NOTHING),
                     },
                 },
@@ -360,8 +387,10 @@ pub static MONTH_EXAMPLES: [Example<PlannedMonth, LineReading>; 6] = [
                     last: 15,
                     plan: Plan {
                         category: 1,
-                        generic: 100_000,
-                        flexible: 75_000,
+                        shown: PerPool {
+                            generic: 100_000,
+                            flexible: 75_000,
+                        },
                         offer: Offer::EveryHour(Bid {
                             economic: 75_000,
                             self_scheduled: 25_000,
@@ -373,8 +402,10 @@ pub static MONTH_EXAMPLES: [Example<PlannedMonth, LineReading>; 6] = [
                     last: 16,
                     plan: Plan {
                         category: 1,
-                        generic: 100_000,
-                        flexible: 75_000,
+                        shown: PerPool {
+                            generic: 100_000,
+                            flexible: 75_000,
+                        },
                         offer: Offer::Until(
                             14,
                             Bid {
@@ -393,8 +424,10 @@ pub static MONTH_EXAMPLES: [Example<PlannedMonth, LineReading>; 6] = [
                     last: 20,
                     plan: Plan {
                         category: 1,
-                        generic: 100_000,
-                        flexible: 75_000,
+                        shown: PerPool {
+                            generic: 100_000,
+                            flexible: 75_000,
+                        },
                         offer: Offer::EveryHour(NOTHING),
                     },
                 },
@@ -403,8 +436,10 @@ pub static MONTH_EXAMPLES: [Example<PlannedMonth, LineReading>; 6] = [
                     last: 30,
                     plan: Plan {
                         category: 3,
-                        generic: 100_000,
-                        flexible: 25_000,
+                        shown: PerPool {
+                            generic: 100_000,
+                            flexible: 25_000,
+                        },
                         offer: Offer::EveryHour(Bid {
                             economic: 25_000,
                             self_scheduled: 65_000,

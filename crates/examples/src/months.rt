@@ -12,19 +12,12 @@ pub const JUNE_2018: TradeMonth = TradeMonth {
 
 // Generic hours 1 to 5, category 2 hours 3 to 7.
 pub const JUNE_2018_EARLY: TradeMonth = TradeMonth {
-    year: 2018,
-    month: 6,
-    holidays: 0,
     generic_start: 1,
     category2_start: 3,
-    category3_start: 16,
+    ..JUNE_2018
 };
 
 pub const APRIL_2018: TradeMonth = TradeMonth {
-    year: 2018,
     month: 4,
-    holidays: 0,
-    generic_start: 14,
-    category2_start: 16,
-    category3_start: 16,
+    ..JUNE_2018
 };

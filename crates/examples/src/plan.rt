@@ -12,6 +12,7 @@ use assessment::day_result::{DayFigures, DayResult};
 use assessment::rule_pair::SHIPPED_RULES;
 use assessment::settings::MonthSettings;
 use assessment::submission::{Bid, DaySubmission, HOURS, HourBids, Showing};
+use pools::per_pool::PerPool;
 use std::array;
 
 // By hand, as a static table of examples calls no default.
@@ -36,9 +37,7 @@ pub enum Offer {
 pub struct Plan {
     // A number, as published: `category_of` tests it.
     pub category: u32,
-    // By name, as `submission` below copies each to the field of that name, and nothing else asks for them.
-    pub generic: u32,
-    pub flexible: u32,
+    pub shown: PerPool<u32>,
     pub offer: Offer,
 }
 
@@ -66,14 +65,10 @@ impl Plan {
         ensures { result ≡ submission_of self.now }
     {
         DaySubmission {
-            generic: Showing {
-                shown: self.generic,
+            showings: PerPool::of(|pool| Showing {
+                shown: self.shown.get(pool),
                 exempt: 0,
-            },
-            flexible: Showing {
-                shown: self.flexible,
-                exempt: 0,
-            },
+            }),
             hours: self.offer.hours(),
         }
     }

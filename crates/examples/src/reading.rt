@@ -13,7 +13,7 @@ use assessment::line::{Line, LineState, MonthLines};
 use pools::pool::Pool;
 use std::fmt;
 
-// A pool of a day, or the two together.
+// A pool of a day, or the two together. No Option<Pool>: the two together are no absence, and have a word of their own.
 #[derive(Clone, Copy, Debug, PartialEq, Eq)]
 pub enum Part {
     Of(Pool),
@@ -94,26 +94,13 @@ fn average_over(watts: u64, days: u32) -> u64
     watts.checked_div(u64::from(days)).unwrap_or(0)
 }
 
-// Watts of both pools. A call of its own, since there the check knows that both are of 32 bits.
-fn together(generic: u32, flexible: u32) -> u64
-    ensures { result ≡ generic + flexible }
-{
-    u64::from(generic) + u64::from(flexible)
-}
-
 // The figures of a pool, or of both together.
 fn watts_in(figures: &DayFigures, part: Part) -> Watts
     ensures { result ≡ in_part figures.now part }
 {
     match part {
         Part::Of(pool) => figures.get(pool).into(),
-        Part::Combined => {
-            let DayFigures { generic, flexible } = *figures;
-            Watts {
-                obligation: together(generic.obligation, flexible.obligation),
-                availability: together(generic.availability, flexible.availability),
-            }
-        }
+        Part::Combined => Watts::from(figures.generic) + Watts::from(figures.flexible),
     }
 }
 

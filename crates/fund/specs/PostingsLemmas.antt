@@ -75,13 +75,13 @@ module _ (xs : List Posting) (k : (q : Pool) → Kept xs q) (p : Pool) (a : ℕ)
   balance_with In q = omega (arith, k q, posted_push In q xs (posting In p a), posted_push Out q xs (posting In p a), after_at In (balance xs) q p a)
   balance_with Out q = omega (arith, posted_push In q xs (posting Out p a), posted_push Out q xs (posting Out p a), after_at Out (balance xs) q p a)
 
--- what is brought forward of n in p
 in_none : (q p : Pool) → in_pool q p 0 ≡ 0
 in_none Generic Generic = refl
 in_none Generic Flexible = refl
 in_none Flexible Generic = refl
 in_none Flexible Flexible = refl
 
+-- what is brought forward of n in p
 brought_in : (q p : Pool) (n : ℕ) → posted In q (brought p n) ≡ in_pool q p n
 brought_in q p zero = posted_none In q ∙ sym (in_none q p)
 brought_in q p (suc n) = omega (arith, posted_push In q [] (posting In p (suc n)), posted_none In q)

@@ -24,7 +24,8 @@ pub struct Posting {
 }
 
 impl Posting {
-    // What stands in a place before anything is posted there. Not a Default: no pool and no direction is one by nature.
+    // What a list of places may be filled with before it is handed to a journal, which empties it: any posting would do.
+    // Not a Default: no pool and no direction is one by nature.
     pub const BLANK: Posting = Posting {
         side: Side {
             pool: Pool::Generic,

@@ -38,24 +38,21 @@ const PAYMENTS: PerPool<u64> = PerPool {
     flexible: 200,
 };
 
-// Prints what a call answered. Here and below no code is shared with the ledger, which prints the faults and
-// balances of a settlement: a tour stands on `fund` alone.
+// Prints what a call answered.
 fn print_answer(
-    rt: &HostRuntime,
+    rt: &impl Print,
     call: impl Display + Drop,
     answer: Result<(), BookFault>,
 ) -> io::Result<()> {
-    match answer.map_err(BookFault::label) {
+    match answer {
         Ok(()) => println!(rt; "{call}: taken"),
-        Err(told) => match told.place {
-            Some(pool) => println!(rt; "{call}: REFUSED {} {} {pool}", told.number, told.layer),
-            None => println!(rt; "{call}: REFUSED {} {}", told.number, told.layer),
-        },
+        Err(fault) => println!(rt; "{call}: REFUSED {}", fault.label()),
     }
 }
 
 // Prints what is looked up in a book: standing, binding and shown balance of each pool, free places.
-fn print_fund<B: FundBook>(rt: &HostRuntime, book: &B) -> io::Result<()> {
+// Not shared with the ledger, which prints this line of a settlement: that lends no book.
+fn print_fund<B: FundBook>(rt: &impl Print, book: &B) -> io::Result<()> {
     print!(rt; "FUND {}", book.standing())?;
     for pool in Pool::ALL {
         let Account { binding, shown } = account_of(book, pool);
@@ -65,7 +62,7 @@ fn print_fund<B: FundBook>(rt: &HostRuntime, book: &B) -> io::Result<()> {
 }
 
 // One month: each pool's charges come in, and a part of them goes out again as payments.
-fn print_month<B: FundBook>(rt: &HostRuntime, book: &mut B) -> io::Result<()> {
+fn print_month<B: FundBook>(rt: &impl Print, book: &mut B) -> io::Result<()> {
     for pool in Pool::ALL {
         let paid = PAYMENTS.get(pool);
         print_answer(
@@ -82,7 +79,7 @@ fn print_month<B: FundBook>(rt: &HostRuntime, book: &mut B) -> io::Result<()> {
     print_fund(rt, book)
 }
 
-fn print_balance_book(rt: &HostRuntime) -> io::Result<()> {
+fn print_balance_book(rt: &impl Print) -> io::Result<()> {
     println!(rt; "BALANCE BOOK")?;
     let mut book = BalanceBook::new();
     print_answer(rt, "in G 250000", book.post_in(Pool::Generic, 250_000))?;
@@ -93,7 +90,7 @@ fn print_balance_book(rt: &HostRuntime) -> io::Result<()> {
 }
 
 // Two months fill the eight places; ruled off, the journal takes a third.
-fn print_journal(rt: &HostRuntime, journal: &mut Journal) -> io::Result<()> {
+fn print_journal(rt: &impl Print, journal: &mut Journal) -> io::Result<()> {
     print_month(rt, journal)?;
     print_month(rt, journal)?;
     print_answer(rt, "charges G", collect(journal, &CHARGES, Pool::Generic))?;
@@ -105,7 +102,7 @@ fn print_journal(rt: &HostRuntime, journal: &mut Journal) -> io::Result<()> {
 }
 
 // An advisory month shows what it would move, and leaves no trace.
-fn print_advisory_month<B: FundBook>(rt: &HostRuntime, book: &mut B) -> io::Result<()> {
+fn print_advisory_month<B: FundBook>(rt: &impl Print, book: &mut B) -> io::Result<()> {
     print_answer(rt, "stand advisory", book.stand(Standing::Advisory))?;
     print_month(rt, book)?;
     print_answer(rt, "out F 401", book.post_out(Pool::Flexible, 401))?;

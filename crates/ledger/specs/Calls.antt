@@ -1,6 +1,6 @@
 -- What the numbers of a call stand for, by their places after its name.
-use Rattle.std.specs.Prelude.{ℕ, List, replicate, slice_index, Some}
-use Rattle.assessment.specs.declared.submission.HourBids.{HourBids}
+use Rattle.std.specs.Prelude.{ℕ, List, drop, replicate, slice_index, Some}
+use Rattle.assessment.specs.Records.{bids_told}
 use Rattle.settlement.specs.declared.tables.MonthTerms.{MonthTerms}
 use Rattle.ledger.specs.declared.calls.PlacedRow.{PlacedRow}
 use Rattle.settlement.specs.declared.tables.SubmittedDay.{SubmittedDay}
@@ -34,20 +34,15 @@ row_of ns = record {
   });
 }
 
--- day-ahead economic and self-scheduled, then real-time
-abbrev pub bids_from : List ℕ → HourBids
-bids_from ns = record {
-  day_ahead = record { economic = word ns 6; self_scheduled = word ns 7 };
-  real_time = record { economic = word ns 8; self_scheduled = word ns 9 };
-}
-
 -- resource, day, two showings, then their exemptions, generic first, and four bids, the same in each hour
 abbrev pub day_of : List ℕ → SubmittedDay
 day_of ns = record {
   at = record { resource = word ns 0; day = word ns 1 };
   submission = record {
-    generic = record { shown = word ns 2; exempt = word ns 4 };
-    flexible = record { shown = word ns 3; exempt = word ns 5 };
-    hours = replicate 24 (bids_from ns);
+    showings = record {
+      generic = record { shown = word ns 2; exempt = word ns 4 };
+      flexible = record { shown = word ns 3; exempt = word ns 5 };
+    };
+    hours = replicate 24 (bids_told (drop 6 ns));
   };
 }

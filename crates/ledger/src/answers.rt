@@ -5,17 +5,17 @@ use fund::book::FundBook;
 use fund::every_book::Account;
 use pools::per_pool::PerPool;
 use pools::pool::Pool;
-use settlement::fault::{FaultPlace, SettlementFault};
+use settlement::fault::SettlementFault;
 use settlement::settlement::Settlement;
 use settlement::tables::{LINES, LineEntry, LoadEntry, PoolClose, pool_at};
 use std::io;
 
-pub(crate) fn taken(rt: &HostRuntime) -> io::Result<()> {
+pub(crate) fn taken(rt: &impl Print) -> io::Result<()> {
     rt.println("OK")
 }
 
-pub(crate) fn recorded(rt: &HostRuntime, figures: &DayFigures) -> io::Result<()> {
-    // Both pools at once, since that is shorter than a loop over Pool::ALL.
+pub(crate) fn recorded(rt: &impl Print, figures: &DayFigures) -> io::Result<()> {
+    // Both pools at once, since a loop over Pool::ALL, which prints the line piece by piece, is longer.
     let DayFigures { generic, flexible } = figures;
     println!(rt;
         "OK {} {} {} {}",
@@ -23,22 +23,12 @@ pub(crate) fn recorded(rt: &HostRuntime, figures: &DayFigures) -> io::Result<()>
     )
 }
 
-pub(crate) fn refused(rt: &HostRuntime, fault: SettlementFault) -> io::Result<()> {
-    let label = fault.label();
-    let number = label.number;
-    let layer = label.layer;
-    // Matched here: a label has no one Display, since each layer has places of its own and a fault may have none.
-    match label.place {
-        None => println!(rt; "REFUSED {number} {layer}"),
-        Some(FaultPlace::Pool(pool)) => println!(rt; "REFUSED {number} {layer} {pool}"),
-        Some(FaultPlace::Day(at)) => {
-            println!(rt; "REFUSED {number} {layer} {} {}", at.resource, at.day)
-        }
-    }
+pub(crate) fn refused(rt: &impl Print, fault: SettlementFault) -> io::Result<()> {
+    println!(rt; "REFUSED {}", fault.label())
 }
 
 // The table holds two lines for each resource, generic first.
-fn line(rt: &HostRuntime, at: usize, entry: &LineEntry) -> io::Result<()> {
+fn line(rt: &impl Print, at: usize, entry: &LineEntry) -> io::Result<()> {
     let resource = at / LINES;
     let pool = pool_at(at);
     let line = entry.line;
@@ -48,7 +38,7 @@ fn line(rt: &HostRuntime, at: usize, entry: &LineEntry) -> io::Result<()> {
     )
 }
 
-fn pool_line(rt: &HostRuntime, pool: Pool, close: PoolClose) -> io::Result<()> {
+fn pool_line(rt: &impl Print, pool: Pool, close: PoolClose) -> io::Result<()> {
     println!(rt;
         "POOL {pool} {} {} {}",
         close.charges, close.rate, close.payments
@@ -56,7 +46,7 @@ fn pool_line(rt: &HostRuntime, pool: Pool, close: PoolClose) -> io::Result<()> {
 }
 
 pub(crate) fn closed(
-    rt: &HostRuntime,
+    rt: &impl Print,
     lines: &[LineEntry],
     pools: &PerPool<PoolClose>,
 ) -> io::Result<()> {
@@ -71,9 +61,9 @@ pub(crate) fn closed(
     Ok(())
 }
 
-pub(crate) fn released(rt: &HostRuntime, loads: &[LoadEntry]) -> io::Result<()> {
+pub(crate) fn released(rt: &impl Print, loads: &[LoadEntry]) -> io::Result<()> {
     taken(rt)?;
-    // The index is printed.
+    // The index is printed. Both pools at once, as in `recorded`.
     for (index, entry) in loads.iter().enumerate() {
         println!(rt;
             "SHARE {index} {} {}",
@@ -84,9 +74,9 @@ pub(crate) fn released(rt: &HostRuntime, loads: &[LoadEntry]) -> io::Result<()> 
 }
 
 // What the lookups tell of the fund.
-// Not shared with fund_tour, which prints this line too: that stands on fund alone, and not on settlement.
+// Not shared with fund_tour, which prints this line of a book: a settlement lends none.
 pub(crate) fn fund<B: FundBook, G: AvailabilityRule, F: AvailabilityRule>(
-    rt: &HostRuntime,
+    rt: &impl Print,
     settlement: &Settlement<B, G, F>,
 ) -> io::Result<()> {
     print!(rt; "FUND {}", settlement.standing())?;

@@ -13,6 +13,7 @@ pub enum Layers {
     Twice,
 }
 
+// The book below them. No Option: both are kinds of book, each with its name in the script, and neither is the lack of one.
 #[derive(Clone, Copy, PartialEq, Eq, Debug)]
 pub enum Ground {
     Balance,
@@ -40,9 +41,8 @@ pub(crate) fn plan(words: &[&str]) -> Result<BookPlan, LineFault> {
     Ok(BookPlan { layers, ground })
 }
 
-// Places for a journal, as many as asked for; past the limit one too many.
+// Places for a journal, as many as asked for; past the limit one too many, which it refuses.
 pub(crate) fn journal_places(heap: Global, places: u64) -> Result<Vec<Posting>, AllocError> {
-    // The lesser of the two always fits a usize, so a TryFrom would have nothing to refuse.
-    let places = places.min(MOST_PLACES as u64 + 1) as usize;
-    vec![in heap; Posting::BLANK; places]
+    let places = usize::try_from(places).unwrap_or(usize::MAX);
+    vec![in heap; Posting::BLANK; places.min(MOST_PLACES + 1)]
 }

@@ -8,7 +8,7 @@ use crate::line_fault::LineFault;
 use crate::numbers::{short_numbers, wide_number};
 use crate::verbs::Verb;
 use assessment::day_result::{DayFigures, DayRow, PoolFigures};
-use assessment::submission::{Bid, DaySubmission, HourBids, Showing};
+use assessment::submission::{DaySubmission, HOURS, HourBids, Showing};
 use assessment::trade_month::TradeMonth;
 use pools::per_pool::PerPool;
 use settlement::fault::ResourceDay;
@@ -48,7 +48,7 @@ fn roster(heap: Global, categories: &[u32]) -> Result<Vec<RosterEntry>, LineFaul
         .iter()
         .enumerate()
         .map(|(number, category)| -> Result<RosterEntry, LineFault> {
-            // More resources than a u32 counts is more than there is memory for, and is told so.
+            // No fault of a line tells of more resources than a u32 counts: they are told as want of memory.
             let identifier = u32::try_from(number).map_err(|_| LineFault::NoMemory(AllocError))?;
             Ok(RosterEntry {
                 identifier,
@@ -58,13 +58,14 @@ fn roster(heap: Global, categories: &[u32]) -> Result<Vec<RosterEntry>, LineFaul
         .try_collect(heap)
 }
 
+// Numbers the words as `short_numbers` does: one function for both would take a closure, and a clause for it, and be longer.
 fn load_entries(heap: Global, words: &[&str]) -> Result<Vec<LoadEntry>, LineFault> {
     (1..)
         .zip(words)
         .map(|(at, word)| -> Result<LoadEntry, LineFault> {
             Ok(LoadEntry {
                 load: wide_number(word, at)?,
-                shares: PerPool::of(|_| 0),
+                shares: PerPool::default(),
             })
         })
         .try_collect(heap)
@@ -112,7 +113,8 @@ impl From<[u32; 5]> for PlacedRow {
     }
 }
 
-// A function here and below, and no From: the order is this script's, and the types are settlement's.
+// A function here and below, and no From: both types are settlement's, so an impl would stand there, where the numbers
+// have no order. Each goes to its field by name.
 fn month_terms(numbers: [u32; 8]) -> MonthTerms
     ensures { result ≡ terms_of numbers }
 {
@@ -140,33 +142,25 @@ fn month_terms(numbers: [u32; 8]) -> MonthTerms
     }
 }
 
-// Each number by its name, and not by pool: their order is the script's.
+// By name, and not by pool: both showings come before both exemptions.
 fn submitted_day(numbers: [u32; 10]) -> SubmittedDay
     ensures { result ≡ day_of numbers }
 {
     let [resource, day, sg, sf, eg, ef, de, ds, re, rs] = numbers;
-    let bids = HourBids {
-        day_ahead: Bid {
-            economic: de,
-            self_scheduled: ds,
-        },
-        real_time: Bid {
-            economic: re,
-            self_scheduled: rs,
-        },
-    };
     SubmittedDay {
         at: ResourceDay { resource, day },
         submission: DaySubmission {
-            generic: Showing {
-                shown: sg,
-                exempt: eg,
+            showings: PerPool {
+                generic: Showing {
+                    shown: sg,
+                    exempt: eg,
+                },
+                flexible: Showing {
+                    shown: sf,
+                    exempt: ef,
+                },
             },
-            flexible: Showing {
-                shown: sf,
-                exempt: ef,
-            },
-            hours: [bids; 24],
+            hours: [HourBids::from([de, ds, re, rs]); HOURS],
         },
     }
 }

@@ -15,7 +15,7 @@ use std::io;
 
 // Prints what a call gave, or why it was refused.
 fn answer<T, F: FnOnce(T) -> io::Result<()>>(
-    rt: &HostRuntime,
+    rt: &impl Print,
     given: Result<T, SettlementFault>,
     print: F,
 ) -> io::Result<()>
@@ -49,7 +49,7 @@ impl<B: FundBook + Drop> Desk<B> {
 
     fn set_tables(&mut self, heap: Global, days: usize, lines: usize) -> Result<(), AllocError> {
         self.rows = vec![in heap; None; days]?;
-        self.lines = vec![in heap; LineEntry::EMPTY; lines]?;
+        self.lines = vec![in heap; LineEntry::default(); lines]?;
         Ok(())
     }
 
@@ -73,21 +73,21 @@ impl<B: FundBook + Drop> Desk<B> {
         Ok(())
     }
 
-    fn open(&mut self, rt: &HostRuntime, terms: &MonthTerms) -> io::Result<()> {
+    fn open(&mut self, rt: &impl Print, terms: &MonthTerms) -> io::Result<()> {
         let opened = self
             .settlement
             .open(terms, self.roster.as_slice(), self.rows.as_mut_slice());
         answer(rt, opened, |()| answers::taken(rt))
     }
 
-    fn record(&mut self, rt: &HostRuntime, day: &SubmittedDay) -> io::Result<()> {
+    fn record(&mut self, rt: &impl Print, day: &SubmittedDay) -> io::Result<()> {
         let recorded = self
             .settlement
             .record(self.roster.as_slice(), self.rows.as_mut_slice(), day);
         answer(rt, recorded, |figures| answers::recorded(rt, &figures))
     }
 
-    fn close(&mut self, rt: &HostRuntime) -> io::Result<()> {
+    fn close(&mut self, rt: &impl Print) -> io::Result<()> {
         let closed = self.settlement.close(
             self.roster.as_slice(),
             self.rows.as_slice(),
@@ -100,12 +100,12 @@ impl<B: FundBook + Drop> Desk<B> {
         )
     }
 
-    fn release(&mut self, rt: &HostRuntime, mut loads: Vec<LoadEntry>) -> io::Result<()> {
+    fn release(&mut self, rt: &impl Print, mut loads: Vec<LoadEntry>) -> io::Result<()> {
         let released = self.settlement.release(loads.as_mut_slice());
         answer(rt, released, |()| answers::released(rt, loads.as_slice()))
     }
 
-    fn fund(&self, rt: &HostRuntime) -> io::Result<()> {
+    fn fund(&self, rt: &impl Print) -> io::Result<()> {
         answers::fund(rt, &self.settlement)
     }
 
@@ -128,7 +128,7 @@ impl<B: FundBook + Drop> Desk<B> {
         Ok(self.fund(rt)?)
     }
 
-    pub(crate) fn started(&self, rt: &HostRuntime) -> io::Result<()> {
+    pub(crate) fn started(&self, rt: &impl Print) -> io::Result<()> {
         answers::taken(rt)?;
         self.fund(rt)
     }

@@ -6,7 +6,7 @@ ghost use Rattle.ledger.specs.Numbers.{Decimal, number};
 use crate::line_fault::LineFault;
 use std::alloc::Global;
 
-// Whether a word is digits alone, at least one.
+// Whether a word is digits alone, at least one: `parse` takes a sign too.
 fn is_digits(word: &str) -> bool
     ensures { IsTrue result ↔ (all_ascii_digits word.now ≡ true) × (0 < length word.now) }
 {

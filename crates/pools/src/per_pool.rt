@@ -15,7 +15,8 @@ pub struct PerPool<T> {
 }
 
 impl<T> PerPool<T> {
-    // What the function answers for each pool.
+    // What the function answers for each pool. A clause for each: with one over the pool, three proofs of `fund` stayed open,
+    // of how a balance book starts, an overlay stands and a journal is ruled off (tried).
     pub fn of<F: Fn(Pool) -> T>(entry: F) -> PerPool<T>
         requires { (p : Pool) → F.pre entry p }
         ensures generic { F.post entry Generic result.generic }

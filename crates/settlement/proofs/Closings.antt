@@ -1,5 +1,6 @@
 -- A taken close, from its parts.
-use Rattle.std.proofs.Common.{◌≡◌, ℕ, ◌≤◌, List, length, Ok, refl, subst, ◌∙◌}
+use Rattle.std.proofs.Common.{◌≡◌, ℕ, ◌≤◌, List, length, Ok, refl, ap, subst, ◌∙◌}
+use Rattle.std.proofs.lemmas.List.{length-map}
 use Rattle.assessment.specs.Days.{Rules}
 use Rattle.assessment.specs.declared.trade_month.TradeMonth.{TradeMonth}
 use Rattle.assessment.specs.Figures.{DayRow}
@@ -9,7 +10,7 @@ use Rattle.pools.specs.PerPool.{entry_of}
 use Rattle.pools.specs.declared.per_pool.PerPool.{PerPool}
 use Rattle.pools.specs.declared.pool.Pool.{Pool}
 use Rattle.pools.specs.declared.pool.Pool.TheVariants.{Generic, Flexible}
-use Rattle.settlement.specs.Closing.{pools_closed, fund_of, charged_entries, line_table, month_posted, ClosesPool, Funded, LinesClose, Closes}
+use Rattle.settlement.specs.Closing.{paid_entry, close_rate, pools_closed, fund_of, charged_entries, line_table, month_posted, ClosesPool, Funded, LinesClose, Closes}
 use Rattle.settlement.specs.Tables.{AllFit}
 use Rattle.assessment.specs.Calendar.{date_of}
 use Rattle.settlement.specs.Views.{Phase, open_at, phase_closed}
@@ -17,6 +18,10 @@ use Rattle.settlement.specs.declared.tables.LineEntry.{LineEntry}
 use Rattle.settlement.specs.declared.tables.PoolClose.{PoolClose}
 use Rattle.settlement.specs.declared.tables.RosterEntry.{RosterEntry}
 use Rattle.settlement.proofs.Rates.{payments_within}
+
+-- a pool's close keeps the number of its lines
+pub closed_long : (price shown : ℕ) (p : Pool) (c : PoolClose) (es es' : List LineEntry) → ClosesPool price shown p es (Ok c) es' → length es' ≡ length es
+closed_long price shown p c es es' h = ap length h.2 ∙ length-map es (paid_entry (close_rate price shown es))
 
 module _ {S : Type 0} (m : FundMeaning S) (r : Rules) (s : S) (t : TradeMonth) (price : ℕ) (roster : List RosterEntry) (rows : List DayRow) where
   -- each pool's postings are funded where both funds are within the limit

@@ -6,7 +6,7 @@ use Rattle.assessment.specs.declared.line.LineState.{LineState}
 use Rattle.assessment.specs.declared.line.LineState.TheVariants.{Empty, Charged, Neutral, Paid}
 use Rattle.settlement.specs.Closing.{if_paid, if_charged, paid_cents, paid_entry, line_tells, told, rate_of, close_rate, paid_entries}
 use Rattle.settlement.specs.Prices.{cents_at}
-use Rattle.settlement.specs.Accounts.{begun}
+use Rattle.settlement.specs.Accounts.{megawatts_begun}
 use Rattle.settlement.specs.declared.amounts.LineAmount.TheVariants.{Charges, Payments, EligibleQuantity}
 use Rattle.settlement.specs.declared.tables.LineEntry.{LineEntry}
 
@@ -70,7 +70,7 @@ rate_capped price fund q = grind arith
 within : (rate fund c q l : ℕ) → rate ≤ fund * 1000000 / q → Near rate c q l → c ≤ fund
 within rate fund c q l low k = omega (arith, mul-le-mul_right q low, div-mul-le_self (fund * 1000000) q)
 
-little : (rate fund c q l : ℕ) → 0 < q → rate ≡ fund * 1000000 / q → Near rate c q l → fund - c < l + begun q
+little : (rate fund c q l : ℕ) → 0 < q → rate ≡ fund * 1000000 / q → Near rate c q l → fund - c < l + megawatts_begun q
 little rate fund c q l pos is k =
     let m : fund * 1000000 < rate * q + q = rw is (lt-div-mul-add pos) in
     omega arith
@@ -83,7 +83,7 @@ payments_within price shown es =
 -- what is left of a fund, as the paid entries tell it
 pub little_left : (price shown : ℕ) (es : List LineEntry) → close_rate price shown es < 3 * price → 0 < told EligibleQuantity (paid_entries price shown es)
     → shown + told Charges (paid_entries price shown es) - told Payments (paid_entries price shown es)
-    < sum_by (λ e. if_paid e.line.state 1) (paid_entries price shown es) + begun (told EligibleQuantity (paid_entries price shown es))
+    < sum_by (λ e. if_paid e.line.state 1) (paid_entries price shown es) + megawatts_begun (told EligibleQuantity (paid_entries price shown es))
 little_left price shown es low pos =
     let rate = close_rate price shown es in
     let fund = shown + told Charges es in

@@ -57,17 +57,17 @@ unfoldable pub worked_lines : Rules → MonthRun → Pool → List Line
 worked_lines r m p = map (worked_line r m p) (range_with_len 0 (length m.roster))
 
 -- which of a resource's two entries in the line table is the pool's: generic comes first
-abbrev pub side : Pool → ℕ
-side Generic = 0
-side Flexible = 1
+abbrev pub pool_place : Pool → ℕ
+pool_place Generic = 0
+pool_place Flexible = 1
 
 -- the lines of a pool in the line table that the close returned
 unfoldable pub returned_lines : MonthClosed → Pool → List LineEntry
-returned_lines c p = map (λ i. slice_index_or c.lines (2 * i + side p) no_line) (range_with_len 0 (length c.month.roster))
+returned_lines c p = map (λ i. slice_index_or c.lines (2 * i + pool_place p) no_line) (range_with_len 0 (length c.month.roster))
 
 -- the megawatts of a quantity in watts, a part counting as a whole
-abbrev pub begun : ℕ → ℕ
-begun q = (q + 999999) / 1000000
+abbrev pub megawatts_begun : ℕ → ℕ
+megawatts_begun q = (q + 999999) / 1000000
 
 -- the fund of a pool before a close: the shown balance and the month's charges
 abbrev pub fund_before : MonthClosed → Pool → ℕ
@@ -110,10 +110,10 @@ pub record Settled (r : Rules) (c : MonthClosed) (p : Pool) : Type 0 where
   pub priced : Each (PricedAt (price_of c) (entry_of c.pools p).rate) (returned_lines c p)
   -- the rate is at most triple the price
   pub capped : (entry_of c.pools p).rate ≤ 3 * price_of c
-  -- the payments are covered; below triple, with something eligible, less is left than a cent for each eligible line and each megawatt begun
+  -- the payments are covered; below triple, with something eligible, less is left than a cent for each eligible line and each megawatt megawatts_begun
   pub covered : told Payments (returned_lines c p) ≤ fund_before c p
   pub little_left : (entry_of c.pools p).rate < 3 * price_of c → 0 < told EligibleQuantity (returned_lines c p)
-      → fund_before c p - told Payments (returned_lines c p) < sum_by (λ e. if_paid e.line.state 1) (returned_lines c p) + begun (told EligibleQuantity (returned_lines c p))
+      → fund_before c p - told Payments (returned_lines c p) < sum_by (λ e. if_paid e.line.state 1) (returned_lines c p) + megawatts_begun (told EligibleQuantity (returned_lines c p))
   -- no payment passes 4.5 per cent, and no charge 94.5 per cent
   pub ceilings : Each (BelowCeiling (price_of c)) (returned_lines c p)
 

@@ -1,5 +1,6 @@
 -- What each fault of a settlement carries: its number, its layer and its place.
-use Rattle.std.specs.Prelude.{ℕ, Some, None, Option, List, ◌++◌, codes, decimal}
+use Rattle.std.specs.Prelude.{ℕ, Some, None, Option, List, [], ◌∷◌, ◌++◌, codes, decimal}
+use Rattle.pools.specs.Names.{pool_letter}
 use Rattle.pools.specs.declared.pool.Pool.{Pool}
 use Rattle.fund.specs.Faults as book
 use Rattle.fund.specs.declared.label.Label.{Label}
@@ -12,6 +13,11 @@ use Rattle.settlement.specs.declared.fault.FaultPlace.TheVariants as place
 -- how a resource's day is printed
 abbrev pub day_words : ResourceDay → List ℕ
 day_words at = codes "resource " ++ (decimal at.resource ++ (codes ", day " ++ decimal at.day))
+
+-- how a place is printed: a pool by its letter, a resource's day by both numbers
+abbrev pub place_words : FaultPlace → List ℕ
+place_words (place.Pool p) = pool_letter p ∷ []
+place_words (place.Day at) = decimal at.resource ++ (codes " " ++ decimal at.day)
 
 -- the settlement's own layer has the letter S
 abbrev pub labelled : ℕ → Option FaultPlace → Label (Option FaultPlace)

@@ -46,7 +46,7 @@ IsFree rows at = slice_index_or rows (place_of at) None ≡ None
 abbrev pub DayWithin : DaySubmission → Type 0
 DayWithin d = ShowingsWithin d × BidsWithin d × ExemptionsWithin d
 
--- what the two rules make of the day in the open month
+-- what the two rules make of the day in the open month; where none is open there are no figures
 abbrev pub figures_of : Rules → Phase → List RosterEntry → ResourceDay → DaySubmission → DayFigures
 figures_of r fresh roster at d = no_figures
 figures_of r (open_at m p) roster at d = day_figures r (record { month = m; category = category_of roster at.resource; day = at.day; submission = d })

@@ -45,7 +45,7 @@ IsDue (release_due d) = Unit {0}
 abbrev pub share_of : ℕ → ℕ → ℕ → ℕ
 share_of balance total load = balance * load / total
 
--- an entry with its shares of the two balances
+-- an entry with its shares of the two balances, by the total load
 abbrev pub shared : ℕ → ℕ → ℕ → LoadEntry → LoadEntry
 shared generic flexible total e = record { load = e.load; shares = record { generic = share_of generic total e.load; flexible = share_of flexible total e.load } }
 
@@ -59,7 +59,7 @@ module _ {S : Type 0} (m : FundMeaning S) where
   shares_posted s es =
       posted_out m (posted_out m (with_room m s 2) Generic (load_told (Share Generic) es)) Flexible (load_told (Share Flexible) es)
 
-  -- the book after a release, which stands it binding first
+  -- the book after a release of the shares that the entries hold, which stands it binding first
   unfoldable pub released : S → List LoadEntry → S
   released s es = shares_posted (m.stood s Binding) es
 

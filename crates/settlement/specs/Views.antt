@@ -1,5 +1,5 @@
 -- What a settlement comes to: its opening balances, where it stands among its months, and its book's state.
-use Rattle.std.specs.Prelude.{ℕ, ◌+◌, cond, ◌==◌}
+use Rattle.std.specs.Prelude.{ℕ, cond, ◌==◌}
 use Rattle.assessment.specs.declared.trade_month.TradeMonth.{TradeMonth}
 use Rattle.pools.specs.declared.per_pool.PerPool.{PerPool}
 use Rattle.settlement.specs.declared.stage.Stage.{Stage}

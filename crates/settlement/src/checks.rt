@@ -3,7 +3,6 @@ ghost use Rattle.std.specs.Prelude.{MatchBool};
 ghost use Rattle.settlement.specs.Tables.{RosterFits, DaysFit, EachRowWithin, AllFit};
 
 use crate::tables::{LINES, LineEntry, RosterEntry};
-use assessment::category::MOST_CATEGORY;
 use assessment::day_result::{DAY_PLACES, DayResult, DayRow};
 
 pub(crate) const MOST_RESOURCES: usize = 512;
@@ -11,7 +10,7 @@ pub(crate) const MOST_RESOURCES: usize = 512;
 fn roster_fits(roster: &[RosterEntry]) -> bool
     ensures { MatchBool result (RosterFits roster.now) (RosterFits roster.now → ⊥) }
 {
-    roster.len() <= MOST_RESOURCES && roster.iter().all(|entry| entry.category <= MOST_CATEGORY)
+    roster.len() <= MOST_RESOURCES && roster.iter().all(|entry| entry.category().is_ok())
 }
 
 pub(crate) fn days_fit(roster: &[RosterEntry], rows: &[DayRow]) -> bool

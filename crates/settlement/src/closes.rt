@@ -1,26 +1,22 @@
 // Closing a month: an assessing part, a paying part, and the postings.
 ghost use Rattle.std.specs.Prelude.{◌≡◌, ◌*◌, length, OnErr};
-ghost use Rattle.arrayvec.specs.ArrayVec.{array_vec_len};
-ghost use Rattle.settlement.specs.Closing.{QuantitiesWithin, ClosesPool, LinesClose, Closes};
+ghost use Rattle.settlement.specs.Closing.{LinesClose, Closes};
 ghost use Rattle.settlement.specs.Runs.{CloseGoesOn};
 ghost use Rattle.assessment.specs.Pairs.{rules_of};
 ghost use Rattle.settlement.specs.Views.{view, phase_of, phase_closed};
 
-use crate::checks::{MOST_RESOURCES, all_fit};
+use crate::checks::all_fit;
 use crate::fault::SettlementFault;
 use crate::pays::{close_pool, write_table};
 use crate::postings::post_month;
-use crate::price::Price;
 use crate::settlement::Settlement;
 use crate::stage::Stage;
 use crate::tables::{LineEntry, PoolClose, RosterEntry};
 use crate::workings::MonthTables;
-use arrayvec::ArrayVec;
 use assessment::day_result::DayRow;
 use assessment::month_date::{DECEMBER, MonthDate};
 use assessment::rule::AvailabilityRule;
 use fund::book::FundBook;
-use fund::fault::BookFault;
 use pools::per_pool::PerPool;
 use pools::pool::Pool;
 
@@ -38,21 +34,6 @@ impl Stage {
 }
 
 impl<B: FundBook, G: AvailabilityRule, F: AvailabilityRule> Settlement<B, G, F> {
-    // Closes a pool of the lines worked out, by what the book shows of it.
-    fn close_in(
-        &self,
-        pool: Pool,
-        price: Price,
-        entries: &mut ArrayVec<LineEntry, MOST_RESOURCES>,
-    ) -> Result<PoolClose, BookFault>
-        requires { QuantitiesWithin entries.old.items }
-        ensures closes { ClosesPool price.cents (B.means.shown (B.state self.now.book) pool) pool entries.old.items result entries.new.items }
-        ensures long { array_vec_len entries.new ≡ array_vec_len entries.old }
-    {
-        let shown = self.book.shown(pool);
-        close_pool(entries, pool, price, shown)
-    }
-
     // Works out and closes both pools, and writes the line table only when both funds are within the limit.
     fn close_lines(
         &self,
@@ -66,16 +47,10 @@ impl<B: FundBook, G: AvailabilityRule, F: AvailabilityRule> Settlement<B, G, F> 
         let mut entries = tables.work_out(&self.rules);
         // Not `PerPool::of`: each writes its entries, and a fault of the first must stop the second.
         let pools = PerPool {
-            generic: self.close_in(Pool::Generic, price, &mut entries.generic)?,
-            flexible: self.close_in(Pool::Flexible, price, &mut entries.flexible)?,
+            generic: close_pool(&self.book, Pool::Generic, price, &mut entries.generic)?,
+            flexible: close_pool(&self.book, Pool::Flexible, price, &mut entries.flexible)?,
         };
-        write_table(
-            lines,
-            &PerPool {
-                generic: &entries.generic,
-                flexible: &entries.flexible,
-            },
-        );
+        write_table(lines, &entries);
         Ok(pools)
     }
 

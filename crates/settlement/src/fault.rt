@@ -1,6 +1,6 @@
 // Why a settlement refuses a call.
 ghost use Rattle.std.specs.Prelude.{◌≡◌, Some};
-ghost use Rattle.settlement.specs.Faults.{day_words};
+ghost use Rattle.settlement.specs.Faults.{day_words, place_words};
 ghost use Rattle.settlement.specs.declared.fault.SettlementFault.TheVariants.{Book};
 
 use fund::fault::BookFault;
@@ -54,6 +54,18 @@ pub enum SettlementFault {
 pub enum FaultPlace {
     Pool(Pool),
     Day(ResourceDay),
+}
+
+// As it stands in a label: a day by its numbers alone.
+impl fmt::Display for FaultPlace {
+    ghost output = { λ p. Some (place_words p) };
+
+    fn fmt<W: fmt::Write>(&self, f: &mut fmt::Formatter<W>) -> fmt::Result {
+        match self {
+            FaultPlace::Pool(pool) => write!(f, "{pool}"),
+            FaultPlace::Day(at) => write!(f, "{} {}", at.resource, at.day),
+        }
+    }
 }
 
 // By hand, since contracts need the case that `?` makes.

@@ -1,5 +1,5 @@
 // Starting a settlement, and opening a month.
-ghost use Rattle.std.specs.Prelude.{◌≡◌, length, replicate, MatchBool, MatchOption, OnErr};
+ghost use Rattle.std.specs.Prelude.{◌≡◌, MatchBool, MatchOption, OnErr};
 ghost use Rattle.settlement.specs.Opening.{started, MayOpen, Follows, TermsWithin, standing_of, Opens};
 ghost use Rattle.settlement.specs.Runs.{Run, no_history, OpenGoesOn};
 ghost use Rattle.assessment.specs.Pairs.{rules_of};
@@ -20,7 +20,6 @@ use assessment::trade_month::TradeMonth;
 use fund::book::FundBook;
 use fund::standing::Standing;
 use pools::per_pool::PerPool;
-use pools::pool::Pool;
 
 impl Stage {
     fn may_open(&self) -> bool

@@ -1,15 +1,19 @@
 // The paying part of a close: one rate for each pool, and each eligible line's payment at it.
 ghost use Rattle.std.specs.Prelude.{◌≡◌, ℕ, ◌+◌, ◌*◌, ◌<◌, ◌≤◌, map, length, slice_index, slice_index_or};
+ghost use Rattle.arrayvec.specs.ArrayVec.{array_vec_len};
 ghost use Rattle.fund.specs.Balances.{limit};
-ghost use Rattle.settlement.specs.Closing.{line_tells, rate_of, paid_entry, no_line, line_place, line_table, QuantitiesWithin, ClosesPool};
+ghost use Rattle.pools.specs.PerPool.{entry_of};
+ghost use Rattle.pools.specs.declared.pool.Pool.{Pool};
+ghost use Rattle.settlement.specs.Closing.{line_tells, rate_of, paid_entry, no_line, line_table, QuantitiesWithin, ClosesPool};
 ghost use Rattle.settlement.specs.declared.amounts.LineAmount.TheVariants.{EligibleQuantity};
 
 use crate::amounts::LineAmount;
 use crate::checks::MOST_RESOURCES;
-use crate::price::{Price, Rate};
+use crate::price::{Price, Rate, WATTS_IN_A_MEGAWATT};
 use crate::tables::{LINES, LineEntry, PoolClose, pool_at};
+use arrayvec::ArrayVec;
 use assessment::line::LineState;
-use fund::book::LIMIT;
+use fund::book::{FundBook, LIMIT};
 use fund::fault::BookFault;
 use fund::total::{TellsAmount, total};
 use pools::per_pool::PerPool;
@@ -24,7 +28,7 @@ pub(crate) fn rate_for(price: Price, fund: u64, quantity: u128) -> Rate
         return Rate { cents: 0 };
     }
     let triple = 3 * u128::from(price.cents);
-    let all_of_it = u128::from(fund) * 1_000_000 / quantity;
+    let all_of_it = u128::from(fund) * u128::from(WATTS_IN_A_MEGAWATT) / quantity;
     // The cast loses nothing, since a rate is triple the price at most: a TryFrom would have nothing to refuse.
     Rate {
         cents: triple.min(all_of_it) as u64,
@@ -32,12 +36,10 @@ pub(crate) fn rate_for(price: Price, fund: u64, quantity: u128) -> Rate
 }
 
 // The eligible quantity of each line, 0 where it is not eligible, in a table of its own that is filled by place
-// (docs/DECISIONS.md, Forms of code). The limit of 512 is a clause here and in what follows, since no type of a slice tells its
-// longest length.
-fn eligible_quantities(entries: &[LineEntry]) -> [u64; MOST_RESOURCES]
-    requires { length entries.now ≤ 512 }
-    ensures eligible { (k : ℕ) → k < length entries.now → slice_index result k ≡ line_tells EligibleQuantity (slice_index_or entries.now k no_line) }
-    ensures others { (k : ℕ) → length entries.now ≤ k → slice_index result k ≡ 0 }
+// (docs/DECISIONS.md, Forms of code).
+fn eligible_quantities(entries: &ArrayVec<LineEntry, MOST_RESOURCES>) -> [u64; MOST_RESOURCES]
+    ensures eligible { (k : ℕ) → k < array_vec_len entries.now → slice_index result k ≡ line_tells EligibleQuantity (slice_index_or entries.now.items k no_line) }
+    ensures others { (k : ℕ) → array_vec_len entries.now ≤ k → slice_index result k ≡ 0 }
 {
     let mut quantities = [0; MOST_RESOURCES];
     for (i, entry) in entries.iter().enumerate() {
@@ -46,44 +48,33 @@ fn eligible_quantities(entries: &[LineEntry]) -> [u64; MOST_RESOURCES]
     quantities
 }
 
-fn paid(entry: LineEntry, rate: Rate, quantity: u64) -> LineEntry
-    requires small { entry.line.quantity ≤ 58590000000 }
-    requires eligible { quantity ≡ line_tells EligibleQuantity entry }
-    ensures { result ≡ paid_entry rate.cents entry }
-{
-    let cents = match entry.line.state {
-        LineState::Paid => rate.cents_for(quantity),
-        LineState::Empty | LineState::Charged | LineState::Neutral => entry.cents,
-    };
-    LineEntry { cents, ..entry }
-}
-
 // Pays every eligible line at the rate, from a table of the eligible quantities. The place is counted, since of lines
 // written through a zip with that table nothing would be known.
-fn pay(entries: &mut [LineEntry], rate: Rate)
-    requires short { length entries.old ≤ 512 }
-    requires small { QuantitiesWithin entries.old }
-    ensures { entries.new ≡ map (paid_entry rate.cents) entries.old }
+fn pay(entries: &mut ArrayVec<LineEntry, MOST_RESOURCES>, rate: Rate)
+    requires { QuantitiesWithin entries.old.items }
+    ensures { entries.new.items ≡ map (paid_entry rate.cents) entries.old.items }
 {
     let quantities = eligible_quantities(entries);
     for (i, entry) in entries.iter_mut().enumerate() {
-        *entry = paid(*entry, rate, quantities[i]);
+        match entry.line.state {
+            LineState::Paid => entry.cents = rate.cents_for(quantities[i]),
+            LineState::Empty | LineState::Charged | LineState::Neutral => {}
+        }
     }
 }
 
 // A pool's close, by the price of its charges and what the book shows: its fund within the limit, or the fault; then its rate
 // and its payments.
-pub(crate) fn close_pool(
-    entries: &mut [LineEntry],
+pub(crate) fn close_pool<B: FundBook>(
+    book: &B,
     pool: Pool,
     price: Price,
-    shown: u64,
+    entries: &mut ArrayVec<LineEntry, MOST_RESOURCES>,
 ) -> Result<PoolClose, BookFault>
-    requires short { length entries.old ≤ 512 }
-    requires small { QuantitiesWithin entries.old }
-    requires within { shown ≤ limit }
-    ensures { ClosesPool price.cents shown pool entries.old result entries.new }
+    requires { QuantitiesWithin entries.old.items }
+    ensures { ClosesPool price.cents (B.means.shown (B.state book.now) pool) pool entries.old.items result entries.new.items }
 {
+    let shown = book.shown(pool);
     let charges = total(entries, LineAmount::Charges);
     if charges > u128::from(LIMIT - shown) {
         return Err(BookFault::OverLimit(pool));
@@ -103,12 +94,18 @@ pub(crate) fn close_pool(
 }
 
 // Two entries a resource, generic first. The place is counted, since it tells the pool and the resource.
-pub(crate) fn write_table(lines: &mut [LineEntry], entries: &PerPool<&[LineEntry]>)
-    requires two_each { length lines.old ≡ 2 * length entries.now.generic.now }
-    requires alike { length entries.now.flexible.now ≡ length entries.now.generic.now }
-    ensures { lines.new ≡ line_table entries.now.generic.now entries.now.flexible.now (length entries.now.generic.now) }
+pub(crate) fn write_table(
+    lines: &mut [LineEntry],
+    entries: &PerPool<ArrayVec<LineEntry, MOST_RESOURCES>>,
+)
+    requires { (p : Pool) → length lines.old ≡ 2 * array_vec_len (entry_of entries.now p) }
+    ensures { lines.new ≡ line_table entries.now.generic.items entries.now.flexible.items (array_vec_len entries.now.generic) }
 {
     for (place, entry) in lines.iter_mut().enumerate() {
-        *entry = entries.get(pool_at(place))[place / LINES];
+        // By name, since `get` copies an entry, and a table of lines is no Copy.
+        *entry = match pool_at(place) {
+            Pool::Generic => entries.generic[place / LINES],
+            Pool::Flexible => entries.flexible[place / LINES],
+        };
     }
 }

@@ -5,6 +5,8 @@ use pools::out_of_range::OutOfRange;
 
 const MOST_PRICE: u32 = 500_000;
 
+pub(crate) const WATTS_IN_A_MEGAWATT: u64 = 1_000_000;
+
 // What charged lines are charged.
 #[derive(Clone, Copy, PartialEq, Eq, Debug)]
 pub struct Price {
@@ -47,12 +49,12 @@ impl From<Price> for Rate {
 impl Rate {
     ghost use Rattle.settlement.specs.Prices.{cents_at};
 
-    // The cents for a quantity in watts. Its limit is a clause here, in `charged` and in `paid`, and no type: a line can be handed in
-    // with any quantity.
+    // The cents for a quantity in watts. Its limit is a clause here and in `charged`, and no type: lines are plain values, as the
+    // definitions compute them and the caller's table holds them, and a checked one would be taken apart before each is written.
     pub(crate) fn cents_for(self, quantity: u64) -> u64
         requires { quantity ≤ 58590000000 }
         ensures { result ≡ cents_at self.cents quantity }
     {
-        self.cents * quantity / 1_000_000
+        self.cents * quantity / WATTS_IN_A_MEGAWATT
     }
 }

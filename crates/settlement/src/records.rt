@@ -10,7 +10,6 @@ use crate::fault::{ResourceDay, SettlementFault};
 use crate::settlement::Settlement;
 use crate::stage::Stage;
 use crate::tables::{RosterEntry, SubmittedDay};
-use assessment::category::Category;
 use assessment::day_record::DayRecord;
 use assessment::day_result::{DAY_PLACES, DayFigures, DayRow};
 use assessment::rule::AvailabilityRule;
@@ -61,7 +60,7 @@ impl<B: FundBook, G: AvailabilityRule, F: AvailabilityRule> Settlement<B, G, F> 
         if rows[place].is_some() {
             return Err(SettlementFault::AlreadyRecorded(day.at));
         }
-        let category = Category::try_from(entry.category).unwrap();
+        let category = entry.category().unwrap();
         let submitted = DayRecord::new(trade_day, category, &day.submission).map_err(
             |breach| breach_fault(breach, day.at),
         )?;

@@ -1,12 +1,13 @@
 // What is handed in with a call: plain entries, checked before they are used.
-ghost use Rattle.std.specs.Prelude.{◌≡◌};
-ghost use Rattle.settlement.specs.Closing.{no_line};
+ghost use Rattle.std.specs.Prelude.{◌≡◌, ◌<◌, MatchResult};
 ghost use Rattle.settlement.specs.Tables.{pool_at};
 
 use crate::fault::ResourceDay;
-use assessment::line::{Line, LineState};
+use assessment::category::Category;
+use assessment::line::Line;
 use assessment::submission::DaySubmission;
 use assessment::trade_month::TradeMonth;
+use pools::out_of_range::OutOfRange;
 use pools::per_pool::PerPool;
 use pools::pool::Pool;
 
@@ -16,6 +17,15 @@ pub struct RosterEntry {
     pub identifier: u32,
     // A number, since one above 3 is refused (10).
     pub category: u32,
+}
+
+impl RosterEntry {
+    // Its category of flexible capacity, if the number is one.
+    pub fn category(&self) -> Result<Category, OutOfRange>
+        ensures { MatchResult result (λ c. c.number ≡ self.now.category) (λ e. (e.0 ≡ self.now.category) × (3 < self.now.category)) }
+    {
+        Category::try_from(self.category)
+    }
 }
 
 // What a month is opened with: plain numbers, since one past its limits is refused only after other tests.
@@ -36,33 +46,10 @@ pub struct SubmittedDay {
 }
 
 // A line with what is charged or paid for it.
-#[derive(Clone, Copy, PartialEq, Eq, Debug)]
+#[derive(Clone, Copy, Default, PartialEq, Eq, Debug)]
 pub struct LineEntry {
     pub line: Line,
     pub cents: u64,
-}
-
-impl LineEntry {
-    // A place of the line table before a line is written there.
-    pub const EMPTY: LineEntry = LineEntry {
-        line: Line {
-            obligation: 0,
-            availability: 0,
-            days: 0,
-            state: LineState::Empty,
-            quantity: 0,
-        },
-        cents: 0,
-    };
-}
-
-// By hand, as a derived one would want a Default of `Line` and of `LineState`.
-impl Default for LineEntry {
-    ghost is_default = { λ e. e ≡ no_line };
-
-    fn default() -> LineEntry {
-        LineEntry::EMPTY
-    }
 }
 
 // How many places of the line table a resource has: one in each pool. Flat, and no table of PerPool, since it is the caller's

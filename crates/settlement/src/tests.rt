@@ -1,11 +1,14 @@
 // A month of two resources, and a December with its release, through the public calls.
 use crate::fault::ResourceDay;
 use crate::settlement::Settlement;
-use crate::tables::{LineEntry, LoadEntry, MonthTerms, PoolClose, RosterEntry, SubmittedDay};
+use crate::tables::{
+    LINES, LineEntry, LoadEntry, MonthTerms, PoolClose, RosterEntry, SubmittedDay,
+};
+use assessment::day_result::DAY_PLACES;
 use assessment::flexible_rule::FlexibleRule;
 use assessment::generic_rule::GenericRule;
 use assessment::rule_pair::SHIPPED_RULES;
-use assessment::submission::{Bid, DaySubmission, HourBids, Showing};
+use assessment::submission::{Bid, DaySubmission, HOURS, HourBids, Showing};
 use assessment::trade_month::TradeMonth;
 use fund::balance_book::BalanceBook;
 use fund::overlay::Overlay;
@@ -40,15 +43,17 @@ fn hundred_megawatts(economic: u32) -> DaySubmission {
     };
     let bids = HourBids::from(bid);
     DaySubmission {
-        generic: Showing {
-            shown: 100_000,
-            exempt: 0,
+        showings: PerPool {
+            generic: Showing {
+                shown: 100_000,
+                exempt: 0,
+            },
+            flexible: Showing {
+                shown: 0,
+                exempt: 0,
+            },
         },
-        flexible: Showing {
-            shown: 0,
-            exempt: 0,
-        },
-        hours: [bids; 24],
+        hours: [bids; HOURS],
     }
 }
 
@@ -56,8 +61,8 @@ type Desk = Settlement<Overlay<BalanceBook>, GenericRule, FlexibleRule>;
 
 // Opens the month, records both resources on a day, and closes it: what it comes to in the generic pool.
 fn settle(desk: &mut Desk, month: &MonthTerms, day: u32) -> Option<PoolClose> {
-    let mut rows = [None; 62];
-    let mut lines = [LineEntry::EMPTY; 4];
+    let mut rows = [None; DAY_PLACES * ROSTER.len()];
+    let mut lines = [LineEntry::default(); LINES * ROSTER.len()];
     desk.open(month, &ROSTER, &mut rows).ok()?;
     let first = SubmittedDay {
         at: ResourceDay { resource: 0, day },

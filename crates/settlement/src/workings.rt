@@ -1,22 +1,19 @@
 // A month's lines, worked out before anything is written to the caller's table.
-ghost use Rattle.std.specs.Prelude.{◌≡◌, ◌<◌, ◌≤◌, length};
+ghost use Rattle.std.specs.Prelude.{◌≡◌, ◌≤◌, length};
 ghost use Rattle.arrayvec.specs.ArrayVec.{array_vec_len};
-ghost use Rattle.assessment.specs.Laws.{LinesLaw};
-ghost use Rattle.assessment.specs.Lines.{lines_of};
 ghost use Rattle.assessment.specs.Pairs.{rules_of};
 ghost use Rattle.pools.specs.PerPool.{entry_of};
 ghost use Rattle.pools.specs.declared.pool.Pool.{Pool};
 ghost use Rattle.settlement.specs.Closing.{charged_entry, charged_entries, QuantitiesWithin};
-ghost use Rattle.settlement.specs.Tables.{category_of, places_of, DaysFit, EachRowWithin};
+ghost use Rattle.settlement.specs.Tables.{DaysFit, EachRowWithin};
 
 use crate::checks::MOST_RESOURCES;
 use crate::price::{Price, Rate};
 use crate::stage::OpenMonth;
 use crate::tables::{LineEntry, RosterEntry};
 use arrayvec::ArrayVec;
-use assessment::category::Category;
 use assessment::day_result::{DAY_PLACES, DayRow};
-use assessment::line::{Line, LineState, MonthLines};
+use assessment::line::{Line, LineState};
 use assessment::rule::AvailabilityRule;
 use assessment::rule_pair::RulePair;
 use pools::per_pool::PerPool;
@@ -44,27 +41,6 @@ pub(crate) struct MonthTables<'a> {
 }
 
 impl MonthTables<'_> {
-    // The two lines of the i-th resource.
-    fn resource_lines<G: AvailabilityRule, F: AvailabilityRule>(
-        &self,
-        i: usize,
-        rules: &RulePair<G, F>,
-    ) -> MonthLines
-        requires { i < length self.now.roster.now }
-        ensures is { result ≡ lines_of (rules_of G.means F.means rules.now) self.now.month.now.settings.month (category_of self.now.roster.now i) (places_of self.now.rows.now i) }
-        ensures law { LinesLaw result }
-    {
-        let category = Category::try_from(self.roster[i].category).unwrap();
-        let first = DAY_PLACES * i;
-        rules
-            .month_lines(
-                &self.month.settings,
-                category,
-                &self.rows[first..first + DAY_PLACES],
-            )
-            .unwrap()
-    }
-
     // Each pool's lines, charged lines with their cents and eligible ones at 0.
     pub(crate) fn work_out<G: AvailabilityRule, F: AvailabilityRule>(
         &self,
@@ -77,11 +53,14 @@ impl MonthTables<'_> {
         // Of a fixed size, since a close has no want of memory among its answers.
         let mut entries = PerPool::of(|_| ArrayVec::new());
         let price = self.month.price;
-        // By index, since a resource is a place of the roster and 31 of the day table.
-        for i in 0..self.roster.len() {
-            let lines = self.resource_lines(i, rules);
-            entries.generic.push(charged(price, lines.generic));
-            entries.flexible.push(charged(price, lines.flexible));
+        for (entry, rows) in self.roster.iter().zip(self.rows.chunks_exact(DAY_PLACES)) {
+            let category = entry.category().unwrap();
+            let lines = rules
+                .month_lines(&self.month.settings, category, rows)
+                .unwrap();
+            for pool in Pool::ALL {
+                entries.entry(pool).push(charged(price, lines.get(pool)));
+            }
         }
         entries
     }

@@ -35,7 +35,7 @@ use Rattle.statement.specs.Answers.{and_then}
 use Rattle.statement.specs.Files.{Records, MonthPart, RosterPart, records_of, reader_fault, settlement_fault, month_part, roster_from}
 use Rattle.statement.specs.Laws.{days_taken, month_told, StatementsKeepTheLaw}
 use Rattle.statement.specs.Rosters.{enrolled}
-use Rattle.statement.specs.Settling.{MonthStatement, DaysPart, terms_within, is_empty, pool_book, pool_rules, open_view, open_book, no_days, recorded, days_from, fund_in, closed_lines, closed_pools, closed_book, closed_statement, closed_month, told_at, settled_from, settled_records, settled}
+use Rattle.statement.specs.Settling.{MonthStatement, DaysPart, terms_within, is_empty, pool_book, shipped_rules, open_view, open_book, no_days, recorded, days_from, fund_in, closed_lines, closed_pools, closed_book, closed_statement, closed_month, told_at, settled_from, settled_records, settled}
 use Rattle.statement.specs.declared.fault.Located.{Located}
 use Rattle.statement.specs.declared.fault.ReaderFault.{ReaderFault}
 use Rattle.statement.specs.declared.fault.ReaderFault.TheVariants.{Misplaced}
@@ -52,7 +52,7 @@ is_free : (x : DayRow) → is_empty x ≡ true → x ≡ None
 is_free x h = search rules
 
 pub recorded_taken : (t : MonthTerms) (roster : List RosterEntry) (rows more : List DayRow) (d : SubmittedDay) → DaysFit roster rows → recorded t roster rows d ≡ Ok more
-    → recording.Records pool_rules (open_at t.month t.price) roster rows d.at d.submission (Ok (figures_of pool_rules (open_at t.month t.price) roster d.at d.submission)) more
+    → recording.Records shipped_rules (open_at t.month t.price) roster rows d.at d.submission (Ok (figures_of shipped_rules (open_at t.month t.price) roster d.at d.submission)) more
 unfolding recorded
 recorded_taken t roster rows more d fit h =
     let a = required _ _ _ more h in
@@ -90,7 +90,7 @@ still_fits roster more e fits h =
 
 -- an open month with these days taken, as a run
 abbrev MonthRuns : MonthTerms → List RosterEntry → List SubmittedDay → List DayRow → Type 0
-MonthRuns t roster ds rows = Run pool_book (OverlaidSound Within) pool_rules (record {
+MonthRuns t roster ds rows = Run pool_book (OverlaidSound Within) shipped_rules (record {
   opening = pool_book.binding (over balance_book no_money);
   past = [];
   current = Some (record { month = record { terms = t; roster = roster; records = ds }; rows = rows });
@@ -125,8 +125,8 @@ one_day t roster ds rows more d h k =
     let taken = recorded_taken t roster rows more d k.fit h in
     record {
       fit = (k.fit.0, ap length taken.2 ∙ length-set rows (place_of d.at) _ ∙ k.fit.1);
-      within = rows_stay t roster rows more d (Ok (figures_of pool_rules (open_at t.month t.price) roster d.at d.submission)) taken k.within;
-      run = records roster rows more d (Ok (figures_of pool_rules (open_at t.month t.price) roster d.at d.submission)) k.run (refl, refl) taken;
+      within = rows_stay t roster rows more d (Ok (figures_of shipped_rules (open_at t.month t.price) roster d.at d.submission)) taken k.within;
+      run = records roster rows more d (Ok (figures_of shipped_rules (open_at t.month t.price) roster d.at d.submission)) k.run (refl, refl) taken;
     }
 
 -- a day, and the days after it
@@ -168,11 +168,11 @@ module _ (t : MonthTerms) (roster : List RosterEntry) (ds : List SubmittedDay) (
   abbrev told : MonthStatement → MonthClosed
   told s = record { month = record { terms = t; roster = roster; records = ds }; before = pool_book.shown (open_book t); pools = s.pools; lines = s.lines }
 
-  closed_law : Held t roster ds rows → fund_in t roster rows Generic ≤ limit → fund_in t roster rows Flexible ≤ limit → (p : Pool) → Settled pool_rules (told (closed_statement t roster rows)) p
+  closed_law : Held t roster ds rows → fund_in t roster rows Generic ≤ limit → fund_in t roster rows Flexible ≤ limit → (p : Pool) → Settled shipped_rules (told (closed_statement t roster rows)) p
   unfolding open_view
   closed_law k g f =
       let before = replicate (2 * length roster) no_line in
-      (accountants_law pool_book (OverlaidSound Within) pool_rules pool_lawful _ _
+      (accountants_law pool_book (OverlaidSound Within) shipped_rules pool_lawful _ _
       (closes roster rows before (closed_lines t roster rows) (Ok (closed_pools t roster rows)) k.run (refl, refl)
       (record { fits = (k.fit, length-replicate (2 * length roster) no_line, k.within); in_turn = tt; generic = g; flexible = f }, (refl, refl, refl)))).months.0
 
@@ -183,10 +183,10 @@ module _ (t : MonthTerms) (roster : List RosterEntry) (ds : List SubmittedDay) (
       let b = required (leb (fund_in t roster rows Flexible) limit) (Book (OverLimit Flexible)) _ s a.1 in
       (leb-true _ _ a.0, leb-true _ _ b.0, same_ok _ s b.1)
 
-  month_law : (s : MonthStatement) → Held t roster ds rows → closed_month t roster rows ≡ Ok s → (p : Pool) → Settled pool_rules (told s) p
+  month_law : (s : MonthStatement) → Held t roster ds rows → closed_month t roster rows ≡ Ok s → (p : Pool) → Settled shipped_rules (told s) p
   month_law s k h p =
       let c = closed_parts s h in
-      subst (λ (x : MonthStatement). Settled pool_rules (told x) p) c.2 (closed_law k c.0 c.1 p)
+      subst (λ (x : MonthStatement). Settled shipped_rules (told x) p) c.2 (closed_law k c.0 c.1 p)
 
   entry_shown : (p : Pool) → entry_of (closed_statement t roster rows).shown p ≡ pool_book.shown (closed_book t roster rows) p
   entry_shown p = search rules
@@ -194,7 +194,7 @@ module _ (t : MonthTerms) (roster : List RosterEntry) (ds : List SubmittedDay) (
   month_balance : (s : MonthStatement) → closed_month t roster rows ≡ Ok s → (p : Pool) → entry_of s.shown p ≡ (entry_of s.pools p).charges - (entry_of s.pools p).payments
   month_balance s h p =
       let c = closed_parts s h in
-      let funded = pools_funded pool_book pool_rules (open_book t) t.month t.price roster rows (closed_pools t roster rows) c.0 c.1 refl in
+      let funded = pools_funded pool_book shipped_rules (open_book t) t.month t.price roster rows (closed_pools t roster rows) c.0 c.1 refl in
       let after = (balanced pool_book (OverlaidSound Within) pool_lawful (open_book t) (closed_pools t roster rows) (open_sound t) funded).shown p in
       let is : entry_of (closed_statement t roster rows).shown p ≡ (entry_of (closed_pools t roster rows) p).charges - (entry_of (closed_pools t roster rows) p).payments =
       omega (arith, entry_shown p, after, no_fund t p) in
@@ -208,7 +208,7 @@ told_ok at (Ok y) x h = let e = same_ok y x h in ap Ok e
 told_ok at (Err f) x h = cc
 
 -- from the terms and the resources of a file
-from_part : (t : MonthTerms) (part : RosterPart) (s : MonthStatement) → RosterFits part.roster → settled_from t part ≡ Ok s → ((p : Pool) → Settled pool_rules (month_told s part) p) × ((p : Pool) → entry_of s.shown p ≡ (entry_of s.pools p).charges - (entry_of s.pools p).payments)
+from_part : (t : MonthTerms) (part : RosterPart) (s : MonthStatement) → RosterFits part.roster → settled_from t part ≡ Ok s → ((p : Pool) → Settled shipped_rules (month_told s part) p) × ((p : Pool) → entry_of s.shown p ≡ (entry_of s.pools p).charges - (entry_of s.pools p).payments)
 unfolding settled_from
 from_part t part s fits h =
     let a = parts _ _ s h in
@@ -222,7 +222,7 @@ from_part t part s fits h =
     let k = days_run t part.roster part.rest part.offset b.0 [] (no_days part.roster) start b.1.0 in
     let closed = told_ok b.0.offset _ s b.1.1 in
     let e = month_terms t part.roster (days_taken [] part.rest) b.0.rows s closed in
-    (λ p. subst (λ (x : MonthTerms). Settled pool_rules (told x part.roster (days_taken [] part.rest) b.0.rows s) p) e (month_law t part.roster (days_taken [] part.rest) b.0.rows s k closed p), month_balance t part.roster (days_taken [] part.rest) b.0.rows s closed)
+    (λ p. subst (λ (x : MonthTerms). Settled shipped_rules (told x part.roster (days_taken [] part.rest) b.0.rows s) p) e (month_law t part.roster (days_taken [] part.rest) b.0.rows s k closed p), month_balance t part.roster (days_taken [] part.rest) b.0.rows s closed)
 
 -- a resource, and the records after it
 abbrev pub numbered : Bool → RosterEntry → Result (Option RosterEntry) ReaderFault

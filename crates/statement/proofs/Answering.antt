@@ -1,10 +1,11 @@
 -- Answers that are taken or refused, one after another.
-use Rattle.std.proofs.Common.{◌≡◌, ℕ, Bool, true, false, Ok, Err, Result, rules}
+use Rattle.std.proofs.Common.{◌≡◌, ℕ, Bool, true, false, Ok, Err, Result, IsErrAnd, rules}
 use Rattle.statement.specs.Answers.{require, and_then, Leaves, AnswersInMemory}
 use Rattle.statement.specs.Located.{placed}
 use Rattle.statement.specs.declared.fault.Located.{Located}
 use Rattle.statement.specs.declared.fault.StatementFault.{StatementFault}
 use Rattle.statement.specs.declared.no_statement.NoStatement.{NoStatement}
+use Rattle.statement.specs.declared.no_statement.NoStatement.TheVariants.{Refused}
 
 -- a test that is met, or not
 pub met : {A E : Type 0} (b : Bool) (e : E) (r : Result A E) → b ≡ true → require b e r ≡ r
@@ -24,11 +25,13 @@ pub same_ok : {A E : Type 0} (x y : A) → ◌≡◌ {A = Result A E} (Ok x) (Ok
 same_ok x y h = cc
 
 -- an answer placed at an offset
-pub placed_err : {T F : Type 0} (r : Result T F) (n : ℕ) (l : Located F) → placed r n ≡ Err l → (f : F) × (r ≡ Err f) × (l ≡ record { fault = f; offset = n })
-placed_err r n l h = search rules
-
 pub placed_ok : {T F : Type 0} (r : Result T F) (n : ℕ) (x : T) → placed r n ≡ Ok x → r ≡ Ok x
 placed_ok r n x h = search rules
+
+-- a fault that `at_offset` and `?` tell, where the definition refuses with it
+pub refused_at : {T F U V : Type 0} (see : U → V) (r : Result T F) (n : ℕ) (tell : F → StatementFault) {l : Located F} (q : Result U NoStatement) {d : Result V (Located StatementFault)} → placed r n ≡ Err l
+    → IsErrAnd q (λ e. (f : StatementFault) × (e ≡ Refused (record { fault = f; offset = l.offset })) × (f ≡ tell l.fault)) → ((f : F) → r ≡ Err f → d ≡ Err (record { fault = tell f; offset = n })) → AnswersInMemory see q d
+refused_at see r n tell q h told refuses = search rules
 
 -- a call that answers as defined
 pub leaves_ok : {T E V : Type 0} (r : Result T E) (v : V) (d : Result V E) (x : T) → r ≡ Ok x → Leaves r v d → d ≡ Ok v
@@ -39,12 +42,9 @@ leaves_err r v d e h l = rw h at l
 
 -- calls that may run out of memory
 module _ {T U V W : Type 0} (see : T → V) (last : U → W) (d : Result V (Located StatementFault)) (f : V → Result W (Located StatementFault)) where
-  stops_at : (e : NoStatement) → AnswersInMemory see (Err e) d → AnswersInMemory last (Err e) (and_then d f)
-  stops_at e h = search rules
-
-  -- a step that fails ends the chain
-  pub stops : (r : Result T NoStatement) (e : NoStatement) → r ≡ Err e → AnswersInMemory see r d → AnswersInMemory last (Err e) (and_then d f)
-  stops r e h a = stops_at e (rw h at a)
+  -- a step that fails ends the chain by `?`
+  pub stops : (r : Result T NoStatement) (e : NoStatement) (q : Result U NoStatement) → r ≡ Err e → AnswersInMemory see r d → IsErrAnd q (λ y. y ≡ e) → AnswersInMemory last q (and_then d f)
+  stops r e q h a told = search rules
 
   -- a step that is taken leaves the rest of the chain
   pub goes_on : (r : Result T NoStatement) (x : T) (q : Result U NoStatement) → r ≡ Ok x → AnswersInMemory see r d → AnswersInMemory last q (f (see x)) → AnswersInMemory last q (and_then d f)

@@ -1,4 +1,4 @@
-pub mod Printed
+pub mod Copies
 pub mod Answering
 pub mod Parsed
 pub mod Fields

@@ -56,7 +56,7 @@ decides_day d =
     Decides-like _
     (λ x. (((x.0.0, x.0.1.0), (x.1.0.0, x.1.0.1.0)), x.1.1, (x.0.1.1, x.1.0.1.1)))
     (λ x. ((x.0.0.0, (x.0.0.1, x.2.0)), ((x.0.1.0, (x.0.1.1, x.2.1)), x.1)))
-    (Decides-and _ _ (decides_showing d.generic) (Decides-and _ _ (decides_showing d.flexible) (decides_hours d)))
+    (Decides-and _ _ (decides_showing d.showings.generic) (Decides-and _ _ (decides_showing d.showings.flexible) (decides_hours d)))
 
 pub decides_flexible : (category : ℕ) (d : DaySubmission) → Decides (flexible_allowed category d) (FlexibleAllowed category d)
 unfolding flexible_allowed

@@ -22,7 +22,7 @@ use Rattle.settlement.specs.declared.tables.RosterEntry.{RosterEntry}
 use Rattle.settlement.specs.declared.tables.LineEntry.{LineEntry}
 use Rattle.settlement.specs.declared.tables.PoolClose.{PoolClose}
 use Rattle.statement.specs.Laws.{ClosedBy}
-use Rattle.statement.specs.Settling.{MonthStatement, pool_book, pool_rules, terms_within, opens, open_view, closed_month, fund_in}
+use Rattle.statement.specs.Settling.{MonthStatement, pool_book, shipped_rules, terms_within, opens, open_view, closed_month, fund_in}
 use Rattle.statement.proofs.Limits.{refuted, decides_terms}
 use Rattle.statement.proofs.Answering.{met, unmet}
 
@@ -66,7 +66,7 @@ module _ (t : MonthTerms) (roster : List RosterEntry) (rows : List DayRow) (line
   ClosesAs (Ok p) = (closed_month t roster rows ≡ Ok (statement_of p)) × ClosedBy (statement_of p)
   ClosesAs (Err e) = closed_month t roster rows ≡ Err e
 
-  from_open : (a : Result (PerPool PoolClose) SettlementFault) → AllFit roster rows lines → Closes pool_book pool_rules (open_view t) roster rows lines a w lines' → ClosesAs a
+  from_open : (a : Result (PerPool PoolClose) SettlementFault) → AllFit roster rows lines → Closes pool_book shipped_rules (open_view t) roster rows lines a w lines' → ClosesAs a
   unfolding open_view closed_month
   from_open (Ok p) fit o = (
     met _ _ _ (le-leb _ _ o.0.generic) ∙ met _ _ _ (le-leb _ _ o.0.flexible) ∙ rw (o.1.0, o.1.1, o.1.2) refl,
@@ -76,5 +76,5 @@ module _ (t : MonthTerms) (roster : List RosterEntry) (rows : List DayRow) (line
   from_open (Err (Book (OverLimit Flexible))) fit o = met _ _ _ (le-leb _ _ o.0.2.0) ∙ unmet _ _ _ (lt-leb (fund_in t roster rows Flexible) limit (omega (arith, o.0.2.1)))
   from_open (Err e) fit o = search rules
 
-  pub closes_as : (v : View (Overlaid Balances)) (a : Result (PerPool PoolClose) SettlementFault) → v ≡ open_view t → AllFit roster rows lines → Closes pool_book pool_rules v roster rows lines a w lines' → ClosesAs a
-  closes_as v a e fit o = from_open a fit (subst (λ (u : View (Overlaid Balances)). Closes pool_book pool_rules u roster rows lines a w lines') e o)
+  pub closes_as : (v : View (Overlaid Balances)) (a : Result (PerPool PoolClose) SettlementFault) → v ≡ open_view t → AllFit roster rows lines → Closes pool_book shipped_rules v roster rows lines a w lines' → ClosesAs a
+  closes_as v a e fit o = from_open a fit (subst (λ (u : View (Overlaid Balances)). Closes pool_book shipped_rules u roster rows lines a w lines') e o)

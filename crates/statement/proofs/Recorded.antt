@@ -6,7 +6,9 @@ use Rattle.std.proofs.lemmas.Bool.{lt-ltb, le-ltb, cases_eq}
 use Rattle.assessment.proofs.DayLaws.{day_law}
 use Rattle.assessment.specs.Days.{DayCase, day_figures}
 use Rattle.assessment.specs.Laws.{RulesOwed}
-use Rattle.assessment.specs.Lines.{RowWithin}
+use Rattle.assessment.specs.Lines.{PoolWithin, RowWithin}
+use Rattle.assessment.proofs.Pools.{each_pool}
+use Rattle.pools.specs.PerPool.{entry_of}
 use Rattle.assessment.specs.Figures.{DayFigures, DayRow}
 use Rattle.settlement.specs.Recording as recording
 use Rattle.settlement.specs.Recording.{place_of, figures_of}
@@ -18,7 +20,7 @@ use Rattle.settlement.specs.declared.fault.SettlementFault.TheVariants.{UnknownR
 use Rattle.settlement.specs.declared.tables.MonthTerms.{MonthTerms}
 use Rattle.settlement.specs.declared.tables.RosterEntry.{RosterEntry}
 use Rattle.statement.specs.Answers.{Leaves}
-use Rattle.statement.specs.Settling.{is_empty, pool_rules, recorded}
+use Rattle.statement.specs.Settling.{is_empty, shipped_rules, recorded}
 use Rattle.settlement.specs.declared.tables.SubmittedDay.{SubmittedDay}
 use Rattle.statement.proofs.Answering.{met, unmet}
 use Rattle.statement.proofs.Limits.{refuted, decides_between, decides_day, decides_flexible}
@@ -27,7 +29,7 @@ not_empty : (x : DayRow) → (x ≡ None → ⊥) → is_empty x ≡ false
 not_empty x n = search rules
 
 pub recorded_is : (t : MonthTerms) (roster : List RosterEntry) (rows rows' : List DayRow) (d : SubmittedDay) (a : Result DayFigures SettlementFault)
-    → DaysFit roster rows → recording.Records pool_rules (open_at t.month t.price) roster rows d.at d.submission a rows' → Leaves a rows' (recorded t roster rows d)
+    → DaysFit roster rows → recording.Records shipped_rules (open_at t.month t.price) roster rows d.at d.submission a rows' → Leaves a rows' (recorded t roster rows d)
 unfolding recorded
 recorded_is t roster rows rows' d (Ok f) fit h =
     met _ _ _ (lt-ltb d.at.resource (length roster) h.0.known)
@@ -64,16 +66,16 @@ recorded_is t roster rows rows' d (Err (FlexibleInCategory0 x)) fit h =
 recorded_is t roster rows rows' d (Err e) fit h = search rules
 
 -- the rules that ship keep what every rule owes
-rules_owed : RulesOwed pool_rules
+rules_owed : RulesOwed shipped_rules
 rules_owed = record {
   generic = record { economic = λ o e s. min-le_right o e; scheduled = λ o e s. min-le_right _ s; taken = λ o e s. omega (arith, min-le_left o e) };
   flexible = record { economic = λ o e s. min-le_right o e; scheduled = λ o e s. omega arith; taken = λ o e s. omega (arith, min-le_left o e) };
 }
 
-figures_within : (c : DayCase) (f : DayFigures) → f ≡ day_figures pool_rules c → recording.DayWithin c.submission → RowWithin (Some f)
+figures_within : (c : DayCase) (f : DayFigures) → f ≡ day_figures shipped_rules c → recording.DayWithin c.submission → RowWithin (Some f)
 figures_within c f e w =
-    let l = day_law pool_rules c rules_owed in
-    rw e ((l.generic_within, omega (arith, l.generic_capped)), (l.flexible_within, omega (arith, l.flexible_capped)))
+    let l = day_law shipped_rules c rules_owed in
+    rw e (each_pool (λ p. PoolWithin (entry_of (day_figures shipped_rules c) p)) (l.generic_within, omega (arith, l.generic_capped)) (l.flexible_within, omega (arith, l.flexible_capped)))
 
 set_within : (rows : List DayRow) (i : ℕ) (x : DayRow) → RowWithin x → EachRowWithin rows → EachRowWithin (set rows i x)
 set_within rows i x w h k lt =
@@ -83,7 +85,7 @@ set_within rows i x w h k lt =
     ]
 
 pub rows_stay : (t : MonthTerms) (roster : List RosterEntry) (rows rows' : List DayRow) (d : SubmittedDay) (a : Result DayFigures SettlementFault)
-    → recording.Records pool_rules (open_at t.month t.price) roster rows d.at d.submission a rows' → EachRowWithin rows → EachRowWithin rows'
+    → recording.Records shipped_rules (open_at t.month t.price) roster rows d.at d.submission a rows' → EachRowWithin rows → EachRowWithin rows'
 rows_stay t roster rows rows' d (Ok f) h w =
     subst EachRowWithin (sym h.2) (set_within rows (place_of d.at) (Some f) (figures_within _ f h.1 h.0.within) w)
 rows_stay t roster rows rows' d (Err e) h w = subst EachRowWithin (sym h.1) w

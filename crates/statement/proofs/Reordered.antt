@@ -12,7 +12,7 @@ use Rattle.settlement.specs.declared.tables.RosterEntry.{RosterEntry}
 use Rattle.statement.specs.Answers.{and_then}
 use Rattle.statement.specs.Files.{Records, RosterPart, roster_from}
 use Rattle.statement.specs.Laws.{DaysInAnyOrder}
-use Rattle.statement.specs.Settling.{MonthStatement, DaysPart, pool_rules, recorded, days_from, no_days, closed_month, opens, told_at, settled_from, settled_records}
+use Rattle.statement.specs.Settling.{MonthStatement, DaysPart, shipped_rules, recorded, days_from, no_days, closed_month, opens, told_at, settled_from, settled_records}
 use Rattle.statement.specs.declared.fault.Located.{Located}
 use Rattle.statement.specs.declared.fault.StatementFault.{StatementFault}
 use Rattle.statement.specs.declared.records.FileRecord.TheVariants.{Month, Resource, Day}
@@ -23,14 +23,14 @@ use Rattle.statement.proofs.Recorded.{recorded_is}
 
 module _ (t : MonthTerms) (roster : List RosterEntry) where
   abbrev row_of : SubmittedDay → DayRow
-  row_of d = Some (figures_of pool_rules (open_at t.month t.price) roster d.at d.submission)
+  row_of d = Some (figures_of shipped_rules (open_at t.month t.price) roster d.at d.submission)
 
   abbrev MayTake : List DayRow → SubmittedDay → Type 0
   MayTake rows d = MayTakeDay (open_at t.month t.price) roster rows d.at d.submission
 
   -- a day that may be taken is recorded in its place
   placed : (rows : List DayRow) (d : SubmittedDay) → MayTake rows d → recorded t roster rows d ≡ Ok (set rows (place_of d.at) (row_of d))
-  placed rows d k = recorded_is t roster rows (set rows (place_of d.at) (row_of d)) d (Ok (figures_of pool_rules (open_at t.month t.price) roster d.at d.submission)) k.fits (k, refl, refl)
+  placed rows d k = recorded_is t roster rows (set rows (place_of d.at) (row_of d)) d (Ok (figures_of shipped_rules (open_at t.month t.price) roster d.at d.submission)) k.fits (k, refl, refl)
 
   still_fit : (rows : List DayRow) (i : ℕ) (x : DayRow) → DaysFit roster rows → DaysFit roster (set rows i x)
   still_fit rows i x fit = (fit.0, length-set rows i x ∙ fit.1)

@@ -1,7 +1,9 @@
 -- A month file settled part by part.
 use Rattle.std.proofs.Common.{◌≡◌, ℕ, ◌*◌, ◌<◌, List, [], ◌∷◌, length, drop, replicate, Ok, Err, Result, sym, refl, ap, ◌∙◌, subst, inl, inr, arith, rules, None}
 use Rattle.std.proofs.lemmas.Bool.{cases_eq}
-use Rattle.assessment.specs.Lines.{RowWithin}
+use Rattle.assessment.specs.Lines.{PoolWithin, RowWithin, no_figures}
+use Rattle.assessment.proofs.Pools.{each_pool}
+use Rattle.pools.specs.PerPool.{entry_of}
 use Rattle.assessment.specs.Figures.{DayRow}
 use Rattle.fund.specs.Balances.{Balances}
 use Rattle.fund.specs.Overlay.{Overlaid}
@@ -22,7 +24,7 @@ use Rattle.statement.specs.declared.fault.ReaderFault.{ReaderFault}
 use Rattle.statement.specs.declared.fault.ReaderFault.TheVariants.{EndsInside}
 use Rattle.statement.specs.declared.fault.StatementFault.{StatementFault}
 use Rattle.statement.specs.declared.records.FileRecord.{FileRecord}
-use Rattle.statement.proofs.Printed.{all_same}
+use Rattle.statement.proofs.Copies.{all_same}
 use Rattle.statement.proofs.Parsed.{records_none, records_some, rest_month}
 
 pub open_phase : (t : MonthTerms) (v : View (Overlaid Balances)) → v ≡ open_view t → v.phase ≡ open_at t.month t.price
@@ -31,7 +33,7 @@ open_phase t v e = ap (λ (u : View (Overlaid Balances)). u.phase) e
 
 -- an empty day table
 pub empty_within : (rows : List DayRow) (n : ℕ) → rows ≡ replicate n None → EachRowWithin rows
-empty_within rows n e = subst EachRowWithin (sym e) (λ k lt. subst RowWithin (sym (all_same {A = DayRow} None n k)) ((omega arith, omega arith), (omega arith, omega arith)))
+empty_within rows n e = subst EachRowWithin (sym e) (λ k lt. subst RowWithin (sym (all_same {A = DayRow} None n k)) (each_pool (λ p. PoolWithin (entry_of no_figures p)) (omega arith, omega arith) (omega arith, omega arith)))
 
 -- the month opened over an empty day table
 pub opened_taken : (t : MonthTerms) (roster : List RosterEntry) (rows : List DayRow) (n : ℕ) → n ≡ 31 * length roster → opens t ≡ Ok tt → rows ≡ replicate n None → opened_month t roster ≡ Ok (record { terms = t; roster = roster; rows = rows })

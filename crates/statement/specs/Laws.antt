@@ -17,7 +17,7 @@ use Rattle.statement.specs.Answers.{and_then}
 use Rattle.statement.specs.Files.{Records, RosterPart, records_of, month_part, roster_from}
 use Rattle.statement.specs.Printing.{statement_text, output, is_settled}
 use Rattle.statement.specs.Reading.{as_day}
-use Rattle.statement.specs.Settling.{MonthStatement, pool_book, pool_rules, open_view, open_book, settled_records, settled}
+use Rattle.statement.specs.Settling.{MonthStatement, pool_book, shipped_rules, open_view, open_book, settled_records, settled}
 use Rattle.statement.specs.declared.records.FileRecord.TheVariants.{Day}
 use Rattle.settlement.specs.declared.tables.SubmittedDay.{SubmittedDay}
 
@@ -46,7 +46,7 @@ pub record ClosedBy (s : MonthStatement) : Type 0 where
   pub rows : List DayRow
   pub before : List LineEntry
   pub after : View (Overlaid Balances)
-  pub closes : Closes pool_book pool_rules (open_view s.terms) roster rows before (Ok s.pools) after s.lines
+  pub closes : Closes pool_book shipped_rules (open_view s.terms) roster rows before (Ok s.pools) after s.lines
   pub generic : s.shown.generic ≡ pool_book.shown after.book Generic
   pub flexible : s.shown.flexible ≡ pool_book.shown after.book Flexible
 
@@ -76,7 +76,7 @@ month_told s part = record {
 pub record KeepsLaw (bs : List ℕ) (s : MonthStatement) : Type 0 where
   pub part : RosterPart
   pub read : and_then (month_part (records_of bs)) (λ m. roster_from [] 36 m.rest) ≡ Ok part
-  pub law : (p : Pool) → Settled pool_rules (month_told s part) p
+  pub law : (p : Pool) → Settled shipped_rules (month_told s part) p
   -- each pool's fund was empty, so the balance shown is what was charged less what was paid
   pub no_fund : (p : Pool) → pool_book.shown (open_book s.terms) p ≡ 0
   pub balance : (p : Pool) → entry_of s.shown p ≡ (entry_of s.pools p).charges - (entry_of s.pools p).payments

@@ -1,6 +1,7 @@
 -- What stands where in a month file.
-use Rattle.std.specs.Prelude.{ℕ, ◌+◌, ◌*◌, cond, List, map, length, drop, Ok, Err, Result, ◌==◌, nat_lt, slice_index}
+use Rattle.std.specs.Prelude.{ℕ, ◌+◌, ◌*◌, cond, List, map, length, take, drop, Ok, Err, Result, ◌==◌, nat_lt, slice_index}
 use Rattle.std.specs.List.{range_with_len}
+use Rattle.assessment.specs.Records.{bids_told}
 use Rattle.assessment.specs.declared.submission.HourBids.{HourBids}
 use Rattle.statement.specs.declared.fault.ReaderFault.{ReaderFault}
 use Rattle.statement.specs.declared.fault.ReaderFault.TheVariants.{EndsInside, UnknownKind}
@@ -17,23 +18,20 @@ words_of n bs = map (λ i. word_at bs (4 * i)) (range_with_len 0 n)
 
 -- for inner contracts: the bids of hour h, counted from 0, of words that are 4 for each hour
 abbrev pub hour_told : List ℕ → ℕ → HourBids
-hour_told ws h = record {
-  day_ahead = record { economic = slice_index ws (4 * h); self_scheduled = slice_index ws (4 * h + 1) };
-  real_time = record { economic = slice_index ws (4 * h + 2); self_scheduled = slice_index ws (4 * h + 3) };
-}
+hour_told ws h = bids_told (take 4 (drop (4 * h) ws))
 
 -- for inner contracts: the bids of all 24 hours, of 96 such words
 unfoldable pub hours_told : List ℕ → List HourBids
 hours_told ws = map (hour_told ws) (range_with_len 0 24)
 
--- the four bids of an hour
+-- the four bids of an hour, the first of which stands at i
 abbrev pub hour_at : List ℕ → ℕ → HourBids
 hour_at bs i = record {
   day_ahead = record { economic = word_at bs i; self_scheduled = word_at bs (i + 4) };
   real_time = record { economic = word_at bs (i + 8); self_scheduled = word_at bs (i + 12) };
 }
 
--- the bids of each hour of a day
+-- the bids of each hour of a day, the first of which stand at i
 unfoldable pub hours_at : List ℕ → ℕ → List HourBids
 hours_at bs i = map (λ h. hour_at bs (i + 16 * h)) (range_with_len 0 24)
 
@@ -64,8 +62,10 @@ unfoldable pub day_of : List ℕ → Result FileRecord ReaderFault
 day_of rest = cond (nat_lt (length rest) 408) (Err EndsInside) (Ok (Day (record {
   at = record { resource = word_at rest 0; day = word_at rest 4 };
   submission = record {
-    generic = record { shown = word_at rest 8; exempt = word_at rest 16 };
-    flexible = record { shown = word_at rest 12; exempt = word_at rest 20 };
+    showings = record {
+      generic = record { shown = word_at rest 8; exempt = word_at rest 16 };
+      flexible = record { shown = word_at rest 12; exempt = word_at rest 20 };
+    };
     hours = hours_at rest 24;
   };
 })))

@@ -1,4 +1,4 @@
--- An answer whose fault is told at a byte offset.
+-- For inner contracts: an answer whose fault is told at a byte offset.
 use Rattle.std.specs.Prelude.{ℕ, Ok, Err, Result}
 use Rattle.statement.specs.declared.fault.Located.{Located}
 

@@ -35,7 +35,7 @@ use Rattle.statement.specs.declared.fault.Located.{Located}
 use Rattle.statement.specs.declared.fault.StatementFault.{StatementFault}
 use Rattle.settlement.specs.declared.tables.SubmittedDay.{SubmittedDay}
 
--- a number from one to another
+-- whether a number is from low to high
 abbrev pub between : ℕ → ℕ → ℕ → Bool
 between low high n = nat_le low n && nat_le n high
 
@@ -77,11 +77,11 @@ hours_within d (suc n) = hour_within (bids_after d n) && hours_within d n
 
 -- both showings, and all 24 hours
 unfoldable pub day_within : DaySubmission → Bool
-day_within d = showing_within d.generic && (showing_within d.flexible && hours_within d 24)
+day_within d = showing_within d.showings.generic && (showing_within d.showings.flexible && hours_within d 24)
 
 -- category 0 shows no flexible capacity
 unfoldable pub flexible_allowed : ℕ → DaySubmission → Bool
-flexible_allowed category d = not (category == 0) || d.flexible.shown == 0
+flexible_allowed category d = not (category == 0) || d.showings.flexible.shown == 0
 
 -- nothing is recorded in the place
 abbrev pub is_empty : DayRow → Bool
@@ -89,8 +89,8 @@ is_empty None = true
 is_empty (Some f) = false
 
 -- the two rules that ship
-abbrev pub pool_rules : Rules
-pool_rules = both generic_rule flexible_rule
+abbrev pub shipped_rules : Rules
+shipped_rules = both generic_rule flexible_rule
 
 -- a balance book under the overlay
 abbrev pub pool_book : FundMeaning (Overlaid Balances)
@@ -112,7 +112,7 @@ recorded t roster rows d =
     (require (is_empty (slice_index_or rows (place_of d.at) None)) (AlreadyRecorded d.at)
     (require (day_within d.submission) (DayOverLimit d.at)
     (require (flexible_allowed (category_of roster d.at.resource) d.submission) (FlexibleInCategory0 d.at)
-    (Ok (slice_set rows (place_of d.at) (Some (figures_of pool_rules (open_at t.month t.price) roster d.at d.submission))))))))
+    (Ok (slice_set rows (place_of d.at) (Some (figures_of shipped_rules (open_at t.month t.price) roster d.at d.submission))))))))
 
 -- the day table, and the byte offset after the last record
 pub record DaysPart : Type 0 where
@@ -141,15 +141,15 @@ pub record MonthStatement : Type 0 where
 module _ (t : MonthTerms) (roster : List RosterEntry) (rows : List DayRow) where
   -- the fund of a pool at the close: what is shown before it, and the charges
   abbrev pub fund_in : Pool → ℕ
-  fund_in p = fund_of pool_book pool_rules (open_book t) t.month t.price roster rows p
+  fund_in p = fund_of pool_book shipped_rules (open_book t) t.month t.price roster rows p
 
   -- the line table that the close writes
   abbrev pub closed_lines : List LineEntry
-  closed_lines = lines_closed pool_book pool_rules (open_book t) t.month t.price roster rows
+  closed_lines = lines_closed pool_book shipped_rules (open_book t) t.month t.price roster rows
 
   -- what each pool comes to
   abbrev pub closed_pools : PerPool PoolClose
-  closed_pools = pools_closed pool_book pool_rules (open_book t) t.month t.price roster rows
+  closed_pools = pools_closed pool_book shipped_rules (open_book t) t.month t.price roster rows
 
   -- the book after the postings
   abbrev pub closed_book : Overlaid Balances

@@ -5,7 +5,7 @@ ghost use Rattle.statement.specs.Faults.{label};
 use crate::fault::{Located, ReaderFault, StatementFault};
 use fund::label::Label;
 
-// Here and not with the other layers' letters, since each layer names its own.
+// Each layer names its own letter, so that no layer below knows of this one.
 const LAYER: char = 'R';
 
 impl Located<StatementFault> {

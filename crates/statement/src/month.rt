@@ -6,6 +6,7 @@ ghost use Rattle.statement.specs.Laws.{ClosedBy};
 ghost use Rattle.statement.specs.Months.{roster_part, opened_month, days_recorded, closed_of};
 ghost use Rattle.statement.specs.Rosters.{days_offset};
 ghost use Rattle.statement.specs.Settling.{recorded, days_part, told_at, closed_month, settled};
+ghost use Rattle.statement.specs.declared.reader.TheConstants.{MONTH_BYTES};
 ghost use Rattle.statement.specs.declared.no_statement.NoStatement.TheVariants.{OutOfMemory};
 
 use crate::closed_month::ClosedMonth;
@@ -50,8 +51,8 @@ impl Model for MonthInProgress {
 }
 
 fn read_roster(heap: Global, file: &[u8]) -> Result<Roster, NoStatement>
-    requires { 36 ≤ length file.now }
-    ensures value { AnswersInMemory (roster_part file.now) result (roster_from [] 36 (records_of (drop 36 file.now))) }
+    requires { MONTH_BYTES ≤ length file.now }
+    ensures value { AnswersInMemory (roster_part file.now) result (roster_from [] MONTH_BYTES (records_of (drop MONTH_BYTES file.now))) }
     ensures within { IfOk result (λ r. days_offset r ≤ length file.now) }
 {
     let mut roster = Roster::empty(heap)?;
@@ -117,7 +118,7 @@ impl MonthInProgress {
             rows,
         } = self;
         let standing = settlement.standing();
-        let mut lines = vec![in heap; LineEntry::EMPTY; LINES * roster.entries().len()]?;
+        let mut lines = vec![in heap; LineEntry::default(); LINES * roster.entries().len()]?;
         let pools = at_offset(
             settlement.close(roster.entries(), &rows, &mut lines),
             offset,

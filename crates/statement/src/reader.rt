@@ -1,13 +1,15 @@
 // Reads the records of a month file. Every field is a 32-bit word, most significant byte first.
 ghost use Rattle.std.specs.Prelude.{◌≡◌, ◌+◌, ◌*◌, ◌<◌, ◌≤◌, length, IfOk, OnOk, MatchResult};
-ghost use Rattle.statement.specs.Layout.{word_at, words_of, hours_told, month_of, resource_of, day_of, record_of, size_of};
+ghost use Rattle.statement.specs.Layout.{words_of, hours_told, month_of, resource_of, day_of, record_of, size_of};
 ghost use Rattle.statement.specs.declared.fault.ReaderFault.TheVariants.{EndsInside};
+ghost use Rattle.statement.specs.declared.reader.TheConstants.{MONTH_BYTES, RESOURCE_BYTES, DAY_BYTES};
 ghost use Rattle.statement.specs.Reading.{as_month, as_resource, as_day};
 
 use crate::fault::ReaderFault;
 use crate::records::{FileRecord, NumberedResource};
-use assessment::submission::{Bid, DaySubmission, HourBids, Showing};
+use assessment::submission::{DaySubmission, HOURS, HourBids, Showing};
 use assessment::trade_month::TradeMonth;
+use pools::per_pool::PerPool;
 use settlement::fault::ResourceDay;
 use settlement::tables::{MonthTerms, RosterEntry, SubmittedDay};
 use std::array;
@@ -21,38 +23,29 @@ pub const DAY_BYTES: usize = 412;
 
 const WORD_BYTES: usize = 4;
 
-// Words are picked by place, here and in `hours`, as the definitions in specs/Layout tell them.
-fn word(bytes: &[u8], at: usize) -> u32
-    requires { at + 4 ≤ length bytes.now }
-    ensures { result ≡ word_at bytes.now at }
-{
-    u32::from_be_bytes([bytes[at], bytes[at + 1], bytes[at + 2], bytes[at + 3]])
-}
+// For each market a bid of two words.
+const HOUR_WORDS: usize = 4;
+
+const BID_WORDS: usize = HOUR_WORDS * HOURS;
 
 // The words that the bytes begin with; a file that has fewer ends inside its record.
+// By place, here and in `hours`, and not by `map` of a `first_chunk`: `map` asks that its iterator over N elements fits in memory, which isn't
+// so of every N; tried in `hours`, where it is so, it settles a file in a quarter more instructions.
 fn words<const N: usize>(bytes: &[u8]) -> Result<[u32; N], ReaderFault>
     ensures { MatchResult result (λ ws. (4 * N ≤ length bytes.now) × (ws ≡ words_of N bytes.now)) (λ e. (length bytes.now < 4 * N) × (e ≡ EndsInside)) }
 {
-    if bytes.len() / WORD_BYTES < N {
+    let (words, _) = bytes.as_chunks::<WORD_BYTES>();
+    if words.len() < N {
         return Err(ReaderFault::EndsInside);
     }
-    Ok(array::from_fn(|i| word(bytes, WORD_BYTES * i)))
+    Ok(array::from_fn(|i| u32::from_be_bytes(words[i])))
 }
 
-// Four words an hour.
-fn hours(bids: &[u32; 96]) -> [HourBids; 24]
+fn hours(bids: &[u32; BID_WORDS]) -> [HourBids; HOURS]
     ensures { result ≡ hours_told bids.now }
 {
-    array::from_fn(|hour| HourBids {
-        day_ahead: Bid {
-            economic: bids[4 * hour],
-            self_scheduled: bids[4 * hour + 1],
-        },
-        real_time: Bid {
-            economic: bids[4 * hour + 2],
-            self_scheduled: bids[4 * hour + 3],
-        },
-    })
+    let (hours, _) = bids.as_chunks::<HOUR_WORDS>();
+    array::from_fn(|hour| HourBids::from(hours[hour]))
 }
 
 // Here and below, `within`: a record with its first word, 4 bytes, takes no more than there are.
@@ -113,24 +106,26 @@ fn read_day(rest: &[u8]) -> Result<FileRecord, ReaderFault>
         generic_exempt,
         flexible_exempt,
     ] = words::<6>(rest)?;
-    let bids = words::<96>(&rest[6 * WORD_BYTES..])?;
+    let bids = words::<BID_WORDS>(&rest[6 * WORD_BYTES..])?;
     Ok(FileRecord::Day(SubmittedDay {
         at: ResourceDay { resource, day },
         submission: DaySubmission {
-            generic: Showing {
-                shown: generic_shown,
-                exempt: generic_exempt,
-            },
-            flexible: Showing {
-                shown: flexible_shown,
-                exempt: flexible_exempt,
+            showings: PerPool {
+                generic: Showing {
+                    shown: generic_shown,
+                    exempt: generic_exempt,
+                },
+                flexible: Showing {
+                    shown: flexible_shown,
+                    exempt: flexible_exempt,
+                },
             },
             hours: hours(&bids),
         },
     }))
 }
 
-// The record that the bytes begin with: its first word tells its kind.
+// The record that the bytes begin with: its first word tells its kind. By a slice pattern (docs/DECISIONS.md, Forms of code).
 pub fn next_record(bytes: &[u8]) -> Result<FileRecord, ReaderFault>
     ensures value { result ≡ record_of bytes.now }
     ensures within { IfOk result (λ x. size_of x ≤ length bytes.now) }
@@ -149,7 +144,7 @@ pub fn next_record(bytes: &[u8]) -> Result<FileRecord, ReaderFault>
 // The month record that the bytes begin with. Month and day have a function each, since each takes another variant out.
 pub fn month_record(bytes: &[u8]) -> Result<MonthTerms, ReaderFault>
     ensures value { result ≡ as_month (record_of bytes.now) }
-    ensures within { OnOk result (36 ≤ length bytes.now) }
+    ensures within { OnOk result (MONTH_BYTES ≤ length bytes.now) }
 {
     match next_record(bytes)? {
         FileRecord::Month(terms) => Ok(terms),
@@ -161,7 +156,7 @@ pub fn month_record(bytes: &[u8]) -> Result<MonthTerms, ReaderFault>
 // The number is converted by `as`, since a u32 has no From to a usize.
 pub fn roster_record(bytes: &[u8], number: usize) -> Result<Option<RosterEntry>, ReaderFault>
     ensures value { result ≡ as_resource number (record_of bytes.now) }
-    ensures within { OnOk result (16 ≤ length bytes.now) }
+    ensures within { OnOk result (RESOURCE_BYTES ≤ length bytes.now) }
 {
     match next_record(bytes)? {
         FileRecord::Resource(resource) if resource.number as usize == number => {
@@ -175,7 +170,7 @@ pub fn roster_record(bytes: &[u8], number: usize) -> Result<Option<RosterEntry>,
 // The day record that the bytes begin with.
 pub fn day_record(bytes: &[u8]) -> Result<SubmittedDay, ReaderFault>
     ensures value { result ≡ as_day (record_of bytes.now) }
-    ensures within { OnOk result (412 ≤ length bytes.now) }
+    ensures within { OnOk result (DAY_BYTES ≤ length bytes.now) }
 {
     match next_record(bytes)? {
         FileRecord::Day(day) => Ok(day),

@@ -2,11 +2,15 @@
 ghost use Rattle.std.specs.Prelude.{◌≤◌, List, length, vec_capacity};
 ghost use Rattle.settlement.specs.Tables.{RosterFits};
 ghost use Rattle.settlement.specs.declared.tables.RosterEntry.{RosterEntry};
+ghost use Rattle.statement.specs.declared.roster.TheConstants.{MOST_RESOURCES};
 
 use settlement::tables::RosterEntry;
 use std::marker::Model;
 
 mod entries;
+
+// Fewer than the 512 that a settlement takes.
+const MOST_RESOURCES: usize = 64;
 
 // No comparison is derived: what a model shows of a Vec cannot give the Vec back.
 #[derive(Debug, Drop)]
@@ -20,5 +24,5 @@ impl Model for Roster {
 
     ghost view = { λ r. r.entries.items };
 
-    ghost invariant = { λ r. (length r.entries.items ≤ 64) × RosterFits r.entries.items × (64 ≤ vec_capacity r.entries) };
+    ghost invariant = { λ r. (length r.entries.items ≤ MOST_RESOURCES) × RosterFits r.entries.items × (MOST_RESOURCES ≤ vec_capacity r.entries) };
 }

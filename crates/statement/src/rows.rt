@@ -6,19 +6,19 @@ ghost use Rattle.statement.specs.Rows.{two_digits, header_row, line_row, pool_ro
 
 use crate::closed_month::ClosedMonth;
 use crate::fault::{Located, StatementFault};
-use crate::line::PrintedLine;
+use crate::line::{LINE_BYTES, PrintedLine};
 use pools::pool::Pool;
 use settlement::tables::LineEntry;
 
 fn put_two_digits(line: &mut PrintedLine, n: u32)
-    requires { length line.old + 21 ≤ 96 }
+    requires { length line.old + 11 ≤ LINE_BYTES }
     ensures puts { line.new ≡ line.old ++ two_digits n }
-    ensures room { length line.new ≤ length line.old + 21 }
+    ensures room { length line.new ≤ length line.old + 11 }
 {
     if n < 10 {
         line.put_byte(b'0');
     }
-    line.put_decimal(u64::from(n));
+    line.put_decimal(n);
 }
 
 // The header: the month, and whether it is binding or advisory.
@@ -28,7 +28,7 @@ pub(crate) fn header_row(month: &ClosedMonth) -> PrintedLine
     let date = &month.terms.month;
     let mut line = PrintedLine::empty();
     line.put_text(b"MONTH ");
-    line.put_decimal(u64::from(date.year));
+    line.put_decimal(date.year);
     line.put_byte(b'-');
     put_two_digits(&mut line, date.month);
     line.put_byte(b' ');
@@ -42,8 +42,7 @@ pub(crate) fn line_row(resource: usize, pool: Pool, entry: &LineEntry) -> Printe
     ensures { result ≡ line_row resource pool entry.now }
 {
     let mut line = PrintedLine::empty();
-    // Converted by `as`, since a usize has no From to a u64.
-    line.put_decimal(resource as u64);
+    line.put_decimal(resource);
     line.put_byte(b' ');
     line.put_byte(pool.letter());
     line.put_byte(b' ');
@@ -85,13 +84,12 @@ pub fn refusal_row(fault: Located<StatementFault>) -> PrintedLine
     let label = fault.label();
     let mut line = PrintedLine::empty();
     line.put_text(b"REFUSED ");
-    line.put_decimal(u64::from(label.number));
+    line.put_decimal(label.number);
     line.put_byte(b' ');
-    // A label tells its layer by a char, which is printed as its one byte.
+    // A char, since two programs print it by `{}`, where a u8 would be a number; here it is put as its one byte.
     line.put_byte(u8::try_from(label.layer).unwrap());
     line.put_byte(b' ');
-    // Converted by `as`, since a usize has no From to a u64.
-    line.put_decimal(label.place as u64);
+    line.put_decimal(label.place);
     line.put_byte(b'\n');
     line
 }

@@ -1,14 +1,15 @@
 // What is put at the end of a line. Each `requires` says that the line has room for it.
-ghost use Rattle.std.specs.Prelude.{◌≡◌, ◌+◌, ◌<◌, ◌≤◌, [], ◌∷◌, ◌++◌, length, decimal};
+ghost use Rattle.std.specs.Prelude.{◌≡◌, ◌+◌, ◌<◌, ◌≤◌, [], ◌∷◌, ◌++◌, length};
 
-use super::PrintedLine;
+use super::{LINE_BYTES, PrintedLine};
+use itoa::{Buffer, Integer};
 
 impl PrintedLine {
     pub(crate) fn empty() -> PrintedLine
         ensures { result ≡ [] }
     {
         PrintedLine {
-            bytes: [0; 96],
+            bytes: [0; LINE_BYTES],
             len: 0,
         }
     }
@@ -21,7 +22,7 @@ impl PrintedLine {
     }
 
     pub(crate) fn put_byte(&mut self, b: u8)
-        requires { length self.old < 96 }
+        requires { length self.old < LINE_BYTES }
         ensures { self.new ≡ self.old ++ b ∷ [] }
     {
         self.bytes[self.len] = b;
@@ -29,7 +30,7 @@ impl PrintedLine {
     }
 
     pub(crate) fn put_text(&mut self, more: &[u8])
-        requires { length self.old + length more.now ≤ 96 }
+        requires { length self.old + length more.now ≤ LINE_BYTES }
         ensures { self.new ≡ self.old ++ more.now }
     {
         let end = self.len + more.len();
@@ -37,25 +38,12 @@ impl PrintedLine {
         self.len = end;
     }
 
-    #[tactic(auto, using(crate::proofs::Printed::decimals))]
-    fn put_digits(&mut self, n: u64)
-        requires { length self.old + length (decimal n) ≤ 96 }
-        ensures { self.new ≡ self.old ++ decimal n }
+    // The number in decimal.
+    pub(crate) fn put_decimal<I: Integer>(&mut self, n: I)
+        requires { length self.old + I.MAX_STR_LEN ≤ LINE_BYTES }
+        ensures puts { self.new ≡ self.old ++ I.text n }
+        ensures room { length self.new ≤ length self.old + I.MAX_STR_LEN }
     {
-        if n >= 10 {
-            self.put_digits(n / 10);
-        }
-        // Narrowed by `as`: a u64 has only a TryFrom to a u8, and a digit always fits.
-        self.put_byte(b'0' + (n % 10) as u8);
-    }
-
-    // The number in decimal, which takes at most 20 bytes.
-    #[tactic(auto, using(crate::proofs::Printed::decimals))]
-    pub(crate) fn put_decimal(&mut self, n: u64)
-        requires { length self.old + 20 ≤ 96 }
-        ensures puts { self.new ≡ self.old ++ decimal n }
-        ensures room { length self.new ≤ length self.old + 20 }
-    {
-        self.put_digits(n);
+        self.put_text(Buffer::new().format(n).as_bytes());
     }
 }

@@ -4,15 +4,11 @@ ghost use Rattle.settlement.specs.Tables.{RosterFits};
 ghost use Rattle.statement.specs.Answers.{Leaves};
 ghost use Rattle.statement.specs.Rosters.{days_offset, enrolled};
 
-use super::Roster;
+use super::{MOST_RESOURCES, Roster};
 use crate::reader::{MONTH_BYTES, RESOURCE_BYTES};
-use assessment::category::MOST_CATEGORY;
 use settlement::fault::SettlementFault;
 use settlement::tables::RosterEntry;
 use std::alloc::{AllocError, Global};
-
-// Fewer than the 512 that a settlement takes.
-const MOST_RESOURCES: usize = 64;
 
 impl Roster {
     pub(crate) fn empty(heap: Global) -> Result<Roster, AllocError>
@@ -25,7 +21,7 @@ impl Roster {
 
     pub(crate) fn entries(&self) -> &[RosterEntry]
         ensures value { result.now ≡ self.now }
-        ensures within { length self.now ≤ 64 }
+        ensures within { length self.now ≤ MOST_RESOURCES }
         ensures fits { RosterFits self.now }
     {
         self.entries.as_slice()
@@ -42,10 +38,10 @@ impl Roster {
     pub(crate) fn push(&mut self, entry: RosterEntry) -> Result<(), SettlementFault>
         ensures { Leaves result self.new (enrolled self.old entry) }
     {
-        if self.entries.len() >= MOST_RESOURCES || entry.category > MOST_CATEGORY {
+        if self.entries.len() >= MOST_RESOURCES || entry.category().is_err() {
             return Err(SettlementFault::UnfitTables);
         }
-        self.entries.push(entry).unwrap();
+        self.entries.push_reserved(entry);
         Ok(())
     }
 }

@@ -9,6 +9,6 @@ pub returns-else-weight-eq0 : goal.returns-else-weight-eq0
 returns-else-weight-eq0 c =
     let own = totals_of c.args.own in
     let other = totals_of c.args.other in
-    let is : 1000 * c.args.amount * other.hours * c.args.largest / weight own other ≡ figure c.args.amount own other c.args.largest = grind (arith, nat_tests) in
-    let within = watts_within _ c.args.amount own other c.args.largest c.args.own.capped c.requires.owed c.requires.shown is in
+    let is : 1000 * c.args.amount * other.hours * c.args.largest.kilowatts / weight own other ≡ figure c.args.amount own other c.args.largest.kilowatts = grind (arith, nat_tests) in
+    let within = watts_within _ c.args.amount own other c.args.largest.kilowatts c.args.own.capped c.requires c.args.largest.within is in
     record { is = is; grows = within.0; capped = within.1 }

@@ -1,8 +1,9 @@
 use Rattle.std.proofs.Common.{◌≡◌, ◌+◌, ◌-◌, length, take, drop, Ok, sym, ap, ◌∙◌, arith}
-use Rattle.std.proofs.lemmas.Result.{err_from_is_err_and, IfOk-at_ok}
+use Rattle.std.proofs.lemmas.Result.{IfOk-at_ok}
 use Rattle.statement.specs.Layout.{record_of}
 use Rattle.statement.specs.Reading.{as_resource}
-use Rattle.statement.proofs.Answering.{placed_ok, placed_err, leaves_ok, leaves_err}
+use Rattle.statement.specs.declared.fault.StatementFault.TheVariants.{Reader, Settlement}
+use Rattle.statement.proofs.Answering.{placed_ok, refused_at, leaves_ok, leaves_err}
 use Rattle.statement.proofs.Parsed.{take_rest_length}
 use Rattle.statement.proofs.Rostering.{roster_end, roster_reader, roster_days, roster_refused, roster_more}
 use Rattle.statement.proofs.month.read_roster.Goals as goal
@@ -14,18 +15,16 @@ read c = rw c.entries-number.ensures.value at c.roster_record.ensures.value
 
 pub returns-in_err-entry-clause-value : goal.returns-in_err-entry-clause-value
 returns-in_err-entry-clause-value c =
-    let p = err_from_is_err_and c.from_residual-in_err-entry.result c.from_residual-in_err-entry.ensures.1 in
     let is = read (goal.at.returns-in_err-entry-clause-value c).After-roster_record in
-    let q = placed_err c.roster_record.result c.loop-at.at _ (sym c.at_offset.ensures ∙ c.in_err-entry.was) in
-    rw (p.1, p.2.1, p.2.2, q.2) (c.loop-at.invariant.same ∙ roster_reader c.loop-at.roster c.args.file.now c.loop-at.at c.roster_record.result (omega arith) is q.0 q.1)
+    refused_at _ c.roster_record.result c.loop-at.at Reader _ (sym c.at_offset.ensures ∙ c.in_err-entry.was) c.from_residual-in_err-entry.ensures.1
+    (λ f no. c.loop-at.invariant.same ∙ roster_reader c.loop-at.roster c.args.file.now c.loop-at.at c.roster_record.result (omega arith) is f no)
 
 pub returns-in_err-at_offset-in-Some-clause-value : goal.returns-in_err-at_offset-in-Some-clause-value
 returns-in_err-at_offset-in-Some-clause-value c =
-    let p = err_from_is_err_and c.from_residual-in_err-at_offset-in-Some.result c.from_residual-in_err-at_offset-in-Some.ensures.1 in
     let is = read (goal.at.returns-in_err-at_offset-in-Some-clause-value c).After-roster_record in
     let o = placed_ok c.roster_record.result c.loop-at.at _ (sym c.at_offset.ensures ∙ c.in_ok-entry.was) ∙ ap Ok c.in-Some.is in
-    let q = placed_err c.push.result c.loop-at.at _ (sym c.at_offset-in-Some.ensures ∙ c.in_err-at_offset-in-Some.was) in
-    rw (p.1, p.2.1, p.2.2, q.2) (c.loop-at.invariant.same ∙ roster_refused c.loop-at.roster c.args.file.now c.loop-at.at c.roster_record.result (omega arith) is c.in-Some.entry q.0 o (leaves_err c.push.result _ _ q.0 q.1 c.push.ensures))
+    refused_at _ c.push.result c.loop-at.at Settlement _ (sym c.at_offset-in-Some.ensures ∙ c.in_err-at_offset-in-Some.was) c.from_residual-in_err-at_offset-in-Some.ensures.1
+    (λ f no. c.loop-at.invariant.same ∙ roster_refused c.loop-at.roster c.args.file.now c.loop-at.at c.roster_record.result (omega arith) is c.in-Some.entry f o (leaves_err c.push.result _ _ f no c.push.ensures))
 
 pub returns-in-None-clause-value : goal.returns-in-None-clause-value
 returns-in-None-clause-value c =

@@ -1,9 +1,10 @@
-use Rattle.std.proofs.Common.{◌≡◌, ◌≤◌, length, drop, Ok, Err, refl, sym, ◌∙◌, arith}
-use Rattle.std.proofs.lemmas.Result.{err_from_is_err_and, IfOk-at_ok}
+use Rattle.std.proofs.Common.{◌≡◌, ◌≤◌, length, drop, Ok, refl, sym, ◌∙◌, arith}
+use Rattle.std.proofs.lemmas.Result.{IfOk-at_ok}
 use Rattle.statement.specs.Files.{records_of, month_part}
 use Rattle.statement.specs.Months.{roster_part, closed_of}
 use Rattle.statement.specs.Settling.{settled_from}
-use Rattle.statement.proofs.Answering.{placed_ok, placed_err, stops, goes_on}
+use Rattle.statement.specs.declared.fault.StatementFault.TheVariants.{Reader}
+use Rattle.statement.proofs.Answering.{placed_ok, refused_at, stops, goes_on}
 use Rattle.statement.proofs.Wholes.{month_read, month_refused, settled_unread, settled_by, settled_open}
 use Rattle.statement.proofs.month.settle_month.Goals as goal
 use Rattle.statement.proofs.month.settle_month.Goals.{In_ok-terms}
@@ -18,41 +19,37 @@ read c =
 
 pub returns-in_err-terms-clause-value : goal.returns-in_err-terms-clause-value
 returns-in_err-terms-clause-value c =
-    let p = err_from_is_err_and c.from_residual.result c.from_residual.ensures.1 in
-    let q = placed_err c.month_record.result 0 _ (sym c.at_offset.ensures ∙ c.in_err-terms.was) in
-    rw (p.1, p.2.1, p.2.2, q.2) (settled_unread c.args.file.now _ (month_refused c.args.file.now c.month_record.result q.0 c.month_record.ensures.value q.1))
+    refused_at _ c.month_record.result 0 Reader _ (sym c.at_offset.ensures ∙ c.in_err-terms.was) c.from_residual.ensures.1
+    (λ f is. settled_unread c.args.file.now _ (month_refused c.args.file.now c.month_record.result f c.month_record.ensures.value is))
 
 pub returns-in_err-roster-clause-value : goal.returns-in_err-roster-clause-value
 returns-in_err-roster-clause-value c =
-    let p = err_from_is_err_and c.from_residual-in_err-roster.result c.from_residual-in_err-roster.ensures.1 in
     let bs = c.args.file.now in
     let m = settled_by bs c.in_ok-terms.terms (read (goal.at.returns-in_err-roster-clause-value c).In_ok-terms) in
-    rw (p.1, p.2, m) (stops (roster_part bs) closed_of _ (λ part. settled_from c.in_ok-terms.terms part) c.read_roster.result _ c.in_err-roster.was c.read_roster.ensures.value)
+    rw m (stops (roster_part bs) closed_of _ (λ part. settled_from c.in_ok-terms.terms part) c.read_roster.result _ _ c.in_err-roster.was c.read_roster.ensures.value c.from_residual-in_err-roster.ensures.1)
 
 pub returns-in_err-roster-clause-begun : goal.returns-in_err-roster-clause-begun
 returns-in_err-roster-clause-begun c = let m = read (goal.at.returns-in_err-roster-clause-begun c).In_ok-terms in λ _. rw m refl
 
 pub returns-in_err-month-clause-value : goal.returns-in_err-month-clause-value
 returns-in_err-month-clause-value c =
-    let p = err_from_is_err_and c.from_residual-in_err-month.result c.from_residual-in_err-month.ensures.1 in
     let bs = c.args.file.now in
     let m = settled_by bs c.in_ok-terms.terms (read (goal.at.returns-in_err-month-clause-value c).In_ok-terms) in
     let s = settled_open c.in_ok-terms.terms bs c.in_ok-roster.roster in
-    rw (p.1, p.2, m) (goes_on (roster_part bs) closed_of _ (λ part. settled_from c.in_ok-terms.terms part) c.read_roster.result _ (Err c.in_err-month.field-0.0) c.in_ok-roster.was c.read_roster.ensures.value
-    (rw s (stops (λ x. x) closed_of _ _ c.open.result _ c.in_err-month.was c.open.ensures)))
+    rw m (goes_on (roster_part bs) closed_of _ (λ part. settled_from c.in_ok-terms.terms part) c.read_roster.result _ _ c.in_ok-roster.was c.read_roster.ensures.value
+    (rw s (stops (λ x. x) closed_of _ _ c.open.result _ _ c.in_err-month.was c.open.ensures c.from_residual-in_err-month.ensures.1)))
 
 pub returns-in_err-month-clause-begun : goal.returns-in_err-month-clause-begun
 returns-in_err-month-clause-begun c = let m = read (goal.at.returns-in_err-month-clause-begun c).In_ok-terms in λ _. rw m refl
 
 pub returns-in_err-record_days-clause-value : goal.returns-in_err-record_days-clause-value
 returns-in_err-record_days-clause-value c =
-    let p = err_from_is_err_and c.from_residual-in_err-record_days.result c.from_residual-in_err-record_days.ensures.1 in
     let bs = c.args.file.now in
     let m = settled_by bs c.in_ok-terms.terms (read (goal.at.returns-in_err-record_days-clause-value c).In_ok-terms) in
     let s = settled_open c.in_ok-terms.terms bs c.in_ok-roster.roster in
-    rw (p.1, p.2, m) (goes_on (roster_part bs) closed_of _ (λ part. settled_from c.in_ok-terms.terms part) c.read_roster.result _ (Err c.in_err-record_days.field-0.0) c.in_ok-roster.was c.read_roster.ensures.value
-    (rw s (goes_on (λ x. x) closed_of _ _ c.open.result _ (Err c.in_err-record_days.field-0.0) c.in_ok-month.was c.open.ensures
-    (stops _ closed_of _ _ c.record_days.result _ c.in_err-record_days.was c.record_days.ensures.value))))
+    rw m (goes_on (roster_part bs) closed_of _ (λ part. settled_from c.in_ok-terms.terms part) c.read_roster.result _ _ c.in_ok-roster.was c.read_roster.ensures.value
+    (rw s (goes_on (λ x. x) closed_of _ _ c.open.result _ _ c.in_ok-month.was c.open.ensures
+    (stops _ closed_of _ _ c.record_days.result _ _ c.in_err-record_days.was c.record_days.ensures.value c.from_residual-in_err-record_days.ensures.1))))
 
 pub returns-in_err-record_days-clause-begun : goal.returns-in_err-record_days-clause-begun
 returns-in_err-record_days-clause-begun c = let m = read (goal.at.returns-in_err-record_days-clause-begun c).In_ok-terms in λ _. rw m refl

@@ -1,13 +1,11 @@
-use Rattle.std.proofs.Common.{◌≡◌, refl, rules}
-use Rattle.std.proofs.lemmas.List.FromFn.{fill_by_all}
-use Rattle.assessment.proofs.Arrays.{each_made}
+use Rattle.std.proofs.Common.{◌≡◌, ◌/◌, length, refl, rules}
+use Rattle.assessment.proofs.Arrays.{all_made}
 use Rattle.statement.specs.Layout.{hour_told, hours_told}
+use Rattle.statement.proofs.Fields.{four_at}
 use Rattle.statement.proofs.reader.hours.Goals as goal
 
 pub returns : goal.returns
 unfolding hours_told
 returns c =
     let bids = c.args.bids.now in
-    let made = c.from_fn.ensures.items in
-    let hour = each_made _ (λ f. f.0.now ≡ bids) (λ k h. h ≡ hour_told bids k) 24 (λ f h k x lt keeps called. search rules) _ _ refl made in
-    fill_by_all (hour_told bids) _ 24 (hour_told bids 0) made.long (λ k. hour k (hour_told bids 0))
+    all_made _ (λ f. f.0.now ≡ c.as_chunks.result.0.now) (hour_told bids) 24 (λ f h k x lt keeps called. search (rules, four_at (length bids / 4) k)) _ _ refl c.from_fn.ensures.items

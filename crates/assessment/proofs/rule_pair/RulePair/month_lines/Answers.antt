@@ -1,7 +1,7 @@
 use Rattle.std.proofs.Common.{◌≡◌, ◌<◌, ◌≤◌, ◌+◌, length, get_or, sym, ap, subst, arith, below_more, rules, None}
 use Rattle.assessment.specs.Pairs.{rules_of}
 use Rattle.assessment.specs.Laws.{LinesLaw}
-use Rattle.assessment.specs.Lines.{RowsWithin, PoolWithin, figures_in, assessed_days, lines_of}
+use Rattle.assessment.specs.Lines.{RowsWithin, figures_in, assessed_days, lines_of}
 use Rattle.assessment.specs.Figures.{DayFigures, MonthLines}
 use Rattle.assessment.proofs.Monthly.{Summed, summed_more, summed_all, row_within}
 use Rattle.assessment.proofs.Pools.{each_pool, same_entries}
@@ -19,10 +19,9 @@ loop-row-preserved g c =
     let row = get_or rows c.loop-row.row-index None in
     let is : day.figures ≡ figures_in row = rw c.in_ok-day.was at c.of_row.ensures in
     let lt : c.loop-row.row-index < length rows = c.loop-row-test.true in
-    let within = each_pool (λ p. PoolWithin (entry_of day.figures p)) day.generic_within day.flexible_within in
-    let more = λ (p : Pool). summed_more p rows _ None _ (entry_of day.figures p) (entry_of c.of-sums.result p).watts (i.pools p) lt (ap (λ (f : DayFigures). entry_of f p) is) (within p) in record {
+    let more = λ (p : Pool). summed_more p rows _ None _ (entry_of day.figures p) (entry_of c.of-sums.result p).watts (i.pools p) lt (ap (λ (f : DayFigures). entry_of f p) is) (day.within p) in record {
       pools = each_pool (λ p. Summed p rows (c.loop-row.row-index + 1) (entry_of c.of-sums.result p).watts) (more Generic (search rules)) (more Flexible (search rules));
-      within = below_more _ _ i.within (row_within row day.figures is day.generic_within day.flexible_within);
+      within = below_more _ _ i.within (row_within row day.figures is day.within);
     }
 
 pub returns : goal.returns

@@ -3,4 +3,4 @@ use Rattle.fund.specs.JournalLemmas.{blank_sound}
 use Rattle.fund.proofs.journal.Journal.over.Goals as goal
 
 pub invariant_of-result : goal.invariant_of-result
-invariant_of-result c = record { sound = blank_sound _ _ c.clear.ensures.items (search rules); roomy = omega arith }
+invariant_of-result c = record { sound = blank_sound _ _ (search rules) (search rules); roomy = omega arith }

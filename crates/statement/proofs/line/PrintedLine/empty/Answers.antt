@@ -1,5 +1,5 @@
 use Rattle.std.proofs.Common.{arith}
-use Rattle.statement.proofs.Printed.{all_same}
+use Rattle.statement.proofs.Copies.{all_same}
 use Rattle.statement.proofs.line.PrintedLine.empty.Goals as goal
 
 pub invariant_of-result : goal.invariant_of-result

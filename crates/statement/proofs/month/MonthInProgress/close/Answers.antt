@@ -1,12 +1,12 @@
 use Rattle.std.proofs.Common.{◌≡◌, ◌*◌, rules, length, Ok, sym, ap, ◌∙◌, subst}
 use Rattle.std.specs.Vec.{with_items}
 use Rattle.std.proofs.lemmas.List.{with_items_is}
-use Rattle.std.proofs.lemmas.Result.{err_from_is_err_and}
 use Rattle.fund.specs.BalanceBook.{balances_of}
 use Rattle.fund.specs.Overlay.{overlaid_of}
 use Rattle.settlement.specs.Views.{view}
 use Rattle.statement.specs.Laws.{ClosedBy}
-use Rattle.statement.proofs.Answering.{placed_ok, placed_err}
+use Rattle.statement.specs.declared.fault.StatementFault.TheVariants.{Settlement}
+use Rattle.statement.proofs.Answering.{placed_ok, refused_at}
 use Rattle.statement.proofs.Openings.{open_standing, statement_of, ClosesAs, closes_as}
 use Rattle.statement.proofs.Wholes.{told_ok, told_err}
 use Rattle.statement.proofs.month.MonthInProgress.close.Goals as goal
@@ -28,10 +28,8 @@ told c =
 
 pub returns-in_err-pools-clause-value : goal.returns-in_err-pools-clause-value
 returns-in_err-pools-clause-value c =
-    let p = err_from_is_err_and c.from_residual-in_err-pools.result c.from_residual-in_err-pools.ensures.1 in
-    let q = placed_err c.close.result c.args.offset _ (sym c.at_offset.ensures ∙ c.in_err-pools.was) in
-    let o = rw q.1 at (closed (goal.at.returns-in_err-pools-clause-value c).After-close) in
-    rw (p.1, p.2.1, p.2.2, q.2, ← c.self.view_is) (told_err c.args.offset _ q.0 o)
+    let does = closed (goal.at.returns-in_err-pools-clause-value c).After-close in
+    refused_at _ c.close.result c.args.offset Settlement _ (sym c.at_offset.ensures ∙ c.in_err-pools.was) c.from_residual-in_err-pools.ensures.1 (λ f is. rw (← c.self.view_is) (told_err c.args.offset _ f (rw is at does)))
 
 pub invariant_of-result : goal.invariant_of-result
 invariant_of-result c = record { stands = c.standing-standing.ensures ∙ open_standing c.self.inside.terms _ c.self.invariant.opened }

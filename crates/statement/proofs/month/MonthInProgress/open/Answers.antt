@@ -1,6 +1,5 @@
 use Rattle.std.proofs.Common.{◌≡◌, ◌*◌, List, length, sym, ap, ◌∙◌, subst}
 use Rattle.std.proofs.lemmas.List.{with_items_is}
-use Rattle.std.proofs.lemmas.Result.{err_from_is_err_and}
 use Rattle.assessment.specs.Figures.{DayRow}
 use Rattle.fund.specs.BalanceBook.{balance_book, balances_of}
 use Rattle.fund.specs.Overlay.{over, overlaid_of}
@@ -8,7 +7,8 @@ use Rattle.settlement.specs.Opening.{started}
 use Rattle.settlement.specs.Views.{view}
 use Rattle.statement.specs.Open.{OpenedBy}
 use Rattle.statement.specs.Settling.{pool_book}
-use Rattle.statement.proofs.Answering.{placed_ok, placed_err}
+use Rattle.statement.specs.declared.fault.StatementFault.TheVariants.{Settlement}
+use Rattle.statement.proofs.Answering.{placed_ok, refused_at}
 use Rattle.statement.proofs.Openings.{OpensAs, opens_as}
 use Rattle.statement.proofs.Wholes.{empty_within, opened_taken, opened_refused}
 use Rattle.statement.proofs.month.MonthInProgress.open.Goals as goal
@@ -27,10 +27,8 @@ opened c =
 
 pub returns-in_err-at_offset : goal.returns-in_err-at_offset
 returns-in_err-at_offset c =
-    let p = err_from_is_err_and c.from_residual-in_err-at_offset.result c.from_residual-in_err-at_offset.ensures.1 in
-    let q = placed_err c.open.result 0 _ (sym c.at_offset.ensures ∙ c.in_err-at_offset.was) in
-    let o = rw q.1 at (opened (goal.at.returns-in_err-at_offset c).After-open) in
-    rw (p.1, p.2.1, p.2.2, q.2) (opened_refused c.args.terms c.args.roster q.0 o)
+    let does = opened (goal.at.returns-in_err-at_offset c).After-open in
+    refused_at _ c.open.result 0 Settlement _ (sym c.at_offset.ensures ∙ c.in_err-at_offset.was) c.from_residual-in_err-at_offset.ensures.1 (λ f is. opened_refused c.args.terms c.args.roster f (rw is at does))
 
 pub invariant_of-result : goal.invariant_of-result
 invariant_of-result c =

@@ -1,8 +1,9 @@
 use Rattle.std.proofs.Common.{◌≡◌, ◌+◌, ◌≤◌, length, drop, Ok, sym, ◌∙◌, arith}
-use Rattle.std.proofs.lemmas.Result.{err_from_is_err_and, IfOk-at_ok}
+use Rattle.std.proofs.lemmas.Result.{IfOk-at_ok}
 use Rattle.statement.specs.Files.{records_of}
 use Rattle.statement.specs.Settling.{days_from}
-use Rattle.statement.proofs.Answering.{placed_ok, placed_err, leaves_ok, leaves_err}
+use Rattle.statement.specs.declared.fault.StatementFault.TheVariants.{Reader, Settlement}
+use Rattle.statement.proofs.Answering.{placed_ok, refused_at, leaves_ok, leaves_err}
 use Rattle.statement.proofs.Dating.{days_end, days_reader, days_refused, days_more}
 use Rattle.statement.proofs.Parsed.{take_rest_length}
 use Rattle.statement.proofs.month.MonthInProgress.record_days.Goals as goal
@@ -24,18 +25,16 @@ more c o =
 
 pub returns-in_err-day-clause-value : goal.returns-in_err-day-clause-value
 returns-in_err-day-clause-value c =
-    let p = err_from_is_err_and c.from_residual.result c.from_residual.ensures.1 in
     let m = c.loop-at.self in
-    let q = placed_err c.day_record.result c.loop-at.at _ (sym c.at_offset.ensures ∙ c.in_err-day.was) in
-    rw (p.1, p.2.1, p.2.2, q.2) (c.loop-at.invariant.rest ∙ days_reader m.terms m.roster m.rows c.args.file.now c.loop-at.at c.day_record.result (omega arith) c.day_record.ensures.value q.0 q.1)
+    refused_at _ c.day_record.result c.loop-at.at Reader _ (sym c.at_offset.ensures ∙ c.in_err-day.was) c.from_residual.ensures.1
+    (λ f is. c.loop-at.invariant.rest ∙ days_reader m.terms m.roster m.rows c.args.file.now c.loop-at.at c.day_record.result (omega arith) c.day_record.ensures.value f is)
 
 pub returns-in_err-at_offset-clause-value : goal.returns-in_err-at_offset-clause-value
 returns-in_err-at_offset-clause-value c =
-    let p = err_from_is_err_and c.from_residual-in_err-at_offset.result c.from_residual-in_err-at_offset.ensures.1 in
     let m = c.loop-at.self in
     let o = day (goal.at.returns-in_err-at_offset-clause-value c).In_ok-day in
-    let q = placed_err c.record.result c.loop-at.at _ (sym c.at_offset-in-loop-at.ensures ∙ c.in_err-at_offset.was) in
-    rw (p.1, p.2.1, p.2.2, q.2) (c.loop-at.invariant.rest ∙ days_refused m.terms m.roster m.rows c.args.file.now c.loop-at.at c.day_record.result (omega arith) c.day_record.ensures.value c.in_ok-day.day q.0 o (leaves_err c.record.result _ _ q.0 q.1 c.record.ensures.value))
+    refused_at _ c.record.result c.loop-at.at Settlement _ (sym c.at_offset-in-loop-at.ensures ∙ c.in_err-at_offset.was) c.from_residual-in_err-at_offset.ensures.1
+    (λ f is. c.loop-at.invariant.rest ∙ days_refused m.terms m.roster m.rows c.args.file.now c.loop-at.at c.day_record.result (omega arith) c.day_record.ensures.value c.in_ok-day.day f o (leaves_err c.record.result _ _ f is c.record.ensures.value))
 
 pub loop-at-preserved : goal.loop-at-preserved
 loop-at-preserved c =
