@@ -14,6 +14,7 @@ use pools::pool::Pool;
 
 const SIZE: usize = 8;
 
+// Nothing compares or prints it, so it has no more derives.
 #[derive(Drop)]
 pub struct BalanceBook {
     balances: PerPool<Balance>,

@@ -15,6 +15,7 @@ pub const MOST_PLACES: usize = 65_536;
 
 // The postings lie in the places handed in: `size` of them, so that writing one never needs memory.
 // The size is kept, as a Vec may have room for more.
+// Nothing compares or prints it, so it has no more derives.
 #[derive(Drop)]
 pub struct Journal {
     postings: Vec<Posting>,

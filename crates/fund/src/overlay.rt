@@ -12,6 +12,7 @@ use pools::per_pool::PerPool;
 use pools::pool::Pool;
 
 // In an advisory month it shows entries of its own, else the lower book.
+// Nothing compares or prints it, so it has no more derives.
 #[derive(Drop)]
 pub struct Overlay<B: FundBook> {
     lower: B,

@@ -27,7 +27,7 @@ fn answer<T, F: FnOnce(T) -> io::Result<()>>(
     }
 }
 
-// Nothing else is derived, since a settlement has no comparison and no Debug.
+// Nothing compares or prints it, so it has no more derives.
 #[derive(Drop)]
 pub struct Desk<B: FundBook> {
     settlement: Settlement<B, GenericRule, FlexibleRule>,

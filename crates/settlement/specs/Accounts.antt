@@ -110,7 +110,7 @@ pub record Settled (r : Rules) (c : MonthClosed) (p : Pool) : Type 0 where
   pub priced : Each (PricedAt (price_of c) (entry_of c.pools p).rate) (returned_lines c p)
   -- the rate is at most triple the price
   pub capped : (entry_of c.pools p).rate ≤ 3 * price_of c
-  -- the payments are covered; below triple, with something eligible, less is left than a cent for each eligible line and each megawatt megawatts_begun
+  -- the payments are covered; below triple, with something eligible, less is left than a cent for each eligible line and each megawatt begun
   pub covered : told Payments (returned_lines c p) ≤ fund_before c p
   pub little_left : (entry_of c.pools p).rate < 3 * price_of c → 0 < told EligibleQuantity (returned_lines c p)
       → fund_before c p - told Payments (returned_lines c p) < sum_by (λ e. if_paid e.line.state 1) (returned_lines c p) + megawatts_begun (told EligibleQuantity (returned_lines c p))

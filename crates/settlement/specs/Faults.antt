@@ -1,4 +1,4 @@
--- What each fault of a settlement carries: its number, its layer and its place.
+-- What each fault of a settlement carries: its number, its layer and its place; and how a day and a place are printed.
 use Rattle.std.specs.Prelude.{ℕ, Some, None, Option, List, [], ◌∷◌, ◌++◌, codes, decimal}
 use Rattle.pools.specs.Names.{pool_letter}
 use Rattle.pools.specs.declared.pool.Pool.{Pool}

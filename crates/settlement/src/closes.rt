@@ -69,7 +69,7 @@ impl<B: FundBook, G: AvailabilityRule, F: AvailabilityRule> Settlement<B, G, F> 
         if !all_fit(roster, rows, lines) {
             return Err(SettlementFault::UnfitTables);
         }
-        // No `?`: a stage is no Result, and a method that made one of it would be a match, and longer.
+        // As in `record`.
         let Stage::Open(month) = self.stage else {
             return Err(SettlementFault::OutOfTurn);
         };

@@ -35,8 +35,8 @@ pub(crate) fn rate_for(price: Price, fund: u64, quantity: u128) -> Rate
     }
 }
 
-// The eligible quantity of each line, 0 where it is not eligible, in a table of its own that is filled by place
-// (docs/DECISIONS.md, Forms of code).
+// The eligible quantity of each line, 0 where it is not eligible, in a table of its own (docs/DECISIONS.md, Forms of code).
+// Filled by place for the reason given beside `pay`.
 fn eligible_quantities(entries: &ArrayVec<LineEntry, MOST_RESOURCES>) -> [u64; MOST_RESOURCES]
     ensures eligible { (k : ℕ) → k < array_vec_len entries.now → slice_index result k ≡ line_tells EligibleQuantity (slice_index_or entries.now.items k no_line) }
     ensures others { (k : ℕ) → array_vec_len entries.now ≤ k → slice_index result k ≡ 0 }

@@ -42,12 +42,12 @@ impl<B: FundBook, G: AvailabilityRule, F: AvailabilityRule> Settlement<B, G, F> 
         if !days_fit(roster, rows) {
             return Err(SettlementFault::UnfitTables);
         }
-        // No `?`: a stage is no Result, and a method that made one of it would be a match, and longer.
+        // No `?`, here and in `close`: a stage is no Result, and a method for the two, with its contract, would be longer than both.
         let Stage::Open(month) = self.stage else {
             return Err(SettlementFault::OutOfTurn);
         };
-        // By place, since the table is flat: the caller owns it, and one of another length is refused (10). Any u32 fits a usize,
-        // but there is no From between them.
+        // By place, since the table is flat: one of any length can be handed in, also of no multiple of 31, and is refused (10).
+        // Any u32 fits a usize, but there is no From between them.
         let resource = day.at.resource as usize;
         let entry = roster
             .get(resource)

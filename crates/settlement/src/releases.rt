@@ -57,7 +57,7 @@ struct Release {
 impl Release {
     // A load's part of a pool's balance, in whole cents, divided in 128 bits since a total has so many. The cast loses nothing, as
     // the product fits too, and a TryFrom would have nothing to refuse. The load's limit is a clause here and below, and no type:
-    // entries are handed in with any load.
+    // an entry is written back as it was handed in, with its shares, so a checked load would be taken apart again.
     fn share(&self, pool: Pool, load: u64) -> u64
         requires { load ≤ 1000000 }
         ensures { result ≡ share_of (entry_of self.now.balances pool) self.now.load load }
@@ -94,7 +94,7 @@ impl<B: FundBook, G: AvailabilityRule, F: AvailabilityRule> Settlement<B, G, F> 
         ensures rules { self.new.rules ≡ self.old.rules }
         ensures runs { ReleaseGoesOn B.means B.sound (rules_of G.means F.means self.old.rules) (view B.state self.old) result (rules_of G.means F.means self.new.rules) (view B.state self.new) loads.new }
     {
-        // No `?`: a stage is no Result, and a method that made one of it would be a match, and longer.
+        // No `?`: a stage is no Result, and a method for this one place would be longer.
         let Stage::ReleaseDue(december) = self.stage else {
             return Err(SettlementFault::OutOfTurn);
         };

@@ -5,7 +5,7 @@ use assessment::rule_pair::RulePair;
 use fund::book::FundBook;
 use pools::per_pool::PerPool;
 
-// No comparison and no Debug, as its book has none.
+// Nothing compares or prints it, so it has no more derives.
 #[derive(Drop)]
 pub struct Settlement<B: FundBook, G: AvailabilityRule, F: AvailabilityRule> {
     pub(crate) book: B,

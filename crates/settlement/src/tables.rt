@@ -52,8 +52,8 @@ pub struct LineEntry {
     pub cents: u64,
 }
 
-// How many places of the line table a resource has: one in each pool. Flat, and no table of PerPool, since it is the caller's
-// table, and one of another length is refused (10).
+// How many places of the line table a resource has: one in each pool. Flat, and no table of PerPool, since a table
+// of any length can be handed in, also of an odd one, and is refused (10).
 pub const LINES: usize = Pool::ALL.len();
 
 // The pool of a place of the line table: two places a resource, generic first.

@@ -30,7 +30,7 @@ use std::alloc::Global;
 use std::marker::Model;
 
 // A month in progress: a settlement over a balance book under the advisory overlay, and the tables handed in with its calls.
-// Nothing else is derived, since a settlement has no comparison and no Debug.
+// Nothing compares or prints it, so it has no more derives.
 #[derive(Drop)]
 struct MonthInProgress {
     terms: MonthTerms,
