@@ -46,7 +46,7 @@ weekday_of m d = weekday m.year m.month d
 abbrev pub marked : ℕ → ℕ → Bool
 marked marks d = marks / 2 ^ (d - 1) % 2 == 1
 
--- a work day is Monday to Friday and not marked a holiday
+-- whether a day is a work day: Saturdays, Sundays and marked days are not
 abbrev pub works : TradeMonth → ℕ → Bool
 works m d = nat_le 1 (weekday_of m d) && (nat_le (weekday_of m d) 5 && not (marked m.holidays d))
 

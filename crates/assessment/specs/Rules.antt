@@ -3,8 +3,8 @@ use Rattle.std.specs.Prelude.{ℕ, ◌+◌, ◌-◌, ◌≤◌, min, Bool, false
 use Rattle.assessment.specs.Calendar.{works}
 use Rattle.assessment.specs.declared.trade_month.TradeMonth.{TradeMonth}
 
--- A rule, by two functions. `assesses` is asked with month, category, day and hour ending. `takes` is asked with an obligation,
--- an economic bid and a self-schedule, and answers what it takes of each bid towards the obligation.
+-- A rule, by two functions. `assesses` is asked with month, category, day and hour ending. `takes` is asked with three amounts:
+-- what is owed, the economic bid and the self-schedule. It answers how much of either bid counts towards what is owed.
 pub record Rule : Type 0 where
   pub assesses : TradeMonth → ℕ → ℕ → ℕ → Bool
   pub takes : ℕ → ℕ → ℕ → ℕ × ℕ
@@ -35,7 +35,7 @@ in_window start h = nat_le start h && nat_lt h (start + 5)
 abbrev pub generic_assesses : TradeMonth → ℕ → ℕ → ℕ → Bool
 generic_assesses m category d h = works m d && in_window m.generic_start h
 
--- economic first, then self-scheduled, until the obligation is met
+-- the economic bid up to what is owed, then the self-schedule up to what is still owed
 abbrev pub generic_takes : ℕ → ℕ → ℕ → ℕ × ℕ
 generic_takes o e s = (min o e, min (o - min o e) s)
 

@@ -1,4 +1,4 @@
-// The calendar of a trade month, and the check that turns a plain month into settings.
+//! The calendar of a trade month, and the check that turns a plain month into settings.
 ghost use Rattle.std.specs.Prelude.{◌≡◌, ◌≤◌, MatchBool, MatchOption};
 ghost use Rattle.assessment.specs.Calendar.{days_of, work_days, StartWithin, DateWithin, WindowsWithin, MonthWithin};
 
@@ -27,8 +27,8 @@ fn windows_within(month: &TradeMonth) -> bool
 }
 
 impl MonthSettings {
-    // The settings of a month within its limits; None where one is broken.
-    // No TryFrom: its error would tell no more than the None, and each caller names a fault of its own.
+    /// The settings of a month within its limits. None if the year is not 2018 to 2099, the month not 1 to 12, one of
+    /// the three window starts not 1 to 20, or a day has a holiday mark that the month lacks.
     pub fn new(month: TradeMonth) -> Option<MonthSettings>
         ensures { MatchOption result (MonthWithin month → ⊥) (λ s. s.month ≡ month) }
     {
@@ -48,25 +48,25 @@ impl MonthSettings {
         })
     }
 
-    // One of the month's days; None for day 0 and past the month's end.
+    /// One of the month's days, with its kind; None for day 0 and past the month's end.
     pub fn day(&self, day: u32) -> Option<TradeDay>
         ensures { MatchOption result ((1 ≤ day) × (day ≤ days_of self.now.month) → ⊥) (λ d. (d.day ≡ day) × (d.settings ≡ self.now)) }
     {
         (1..=self.days).contains(&day).then(|| self.trade_day(day))
     }
 
-    // How many work days the month has.
+    /// How many work days the month has, at most 31.
     pub fn work_days(&self) -> u32
         ensures is { result ≡ work_days self.now.month }
         ensures few { result ≤ 31 }
     {
-        // `as` narrows a count of at most 31, so a TryFrom would have nothing to refuse.
+        // `as` loses nothing: the count is at most 31.
         (1..=self.days)
             .filter(|day| self.trade_day(*day).kind == DayKind::WorkDay)
             .count() as u32
     }
 
-    // A day of the month, with its kind.
+    /// A day of the month, with its kind.
     pub(crate) fn trade_day(&self, day: u32) -> TradeDay
         requires from { 1 ≤ day }
         requires to { day ≤ self.now.days }

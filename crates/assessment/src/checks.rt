@@ -1,4 +1,4 @@
-// The check that turns a day submission into a day record.
+//! The check that turns a day submission into a day record.
 ghost use Rattle.std.specs.Prelude.{◌≡◌, ◌≤◌, MatchBool, MatchResult};
 ghost use Rattle.assessment.specs.Records.{HourWithin, ShowingWithin, ShowingsWithin, BidsWithin, ExemptionsWithin, Breaks};
 
@@ -6,11 +6,10 @@ use crate::category::Category;
 use crate::day_record::DayRecord;
 use crate::settings::TradeDay;
 use crate::submission::{Bid, DayBreach, DaySubmission, HourBids, Showing};
-use pools::pool::Pool;
+use pools::Pool;
 
 const MOST_KILOWATTS: u32 = 2_000_000;
 
-// The tests of a bid and of a showing read other fields: one over both would be no plainer.
 fn bid_within(bid: Bid) -> bool
     ensures { MatchBool result ((bid.economic ≤ 2000000) × (bid.self_scheduled ≤ 2000000)) ((bid.economic ≤ 2000000) × (bid.self_scheduled ≤ 2000000) → ⊥) }
 {
@@ -53,7 +52,8 @@ fn exemptions_within(submission: &DaySubmission) -> bool
 }
 
 impl DayRecord {
-    // The day of a resource of this category, or the first limit that it breaks.
+    /// The day of a resource of this category, or the first limit that it breaks, in the order of `DayBreach`.
+    /// All 24 hours are tested, whether assessed or not.
     pub fn new(
         day: TradeDay,
         category: Category,

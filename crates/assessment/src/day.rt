@@ -1,4 +1,4 @@
-// A resource's day by any two rules: the obligation and availability of both pools, in watts.
+//! A resource's day by any two rules: the obligation and availability of both pools, in watts.
 ghost use Rattle.std.specs.Prelude.{◌≡◌, ◌≤◌};
 ghost use Rattle.assessment.specs.Days.{figure, pool_figures, day_case, day_figures};
 ghost use Rattle.assessment.specs.Laws.{DayLaw, LittleLost};
@@ -12,8 +12,8 @@ use crate::rule::AvailabilityRule;
 use crate::rule_pair::RulePair;
 use crate::totals::PoolTotals;
 
-// An amount of kWh as the day's watts. Exact products first, then one division. What follows the amount is what `pool_day`
-// takes: a struct of the three would be made there and taken apart here.
+/// An amount of kWh as the day's watts; 0 if the pool is not assessed. The products come first and are exact, since
+/// `PoolTotals` and `LargerNet` keep them within 64 bits; one division follows.
 fn watts(amount: u64, own: PoolTotals, other: PoolTotals, largest: LargerNet) -> u64
     requires { amount ≤ own.owed }
     ensures is { result ≡ figure amount (totals_of own) (totals_of other) largest.kilowatts }
@@ -41,7 +41,7 @@ fn pool_day(own: PoolTotals, other: PoolTotals, largest: LargerNet) -> PoolFigur
     let obligation = watts(own.owed, own, other, largest);
     let day_ahead = watts(own.day_ahead, own, other, largest);
     let real_time = watts(own.real_time, own, other, largest);
-    // `as` narrows what is proved to fit, so a TryFrom would have nothing to refuse.
+    // `as` loses nothing: each figure is at most 2,000,000,000.
     PoolFigures {
         obligation: obligation as u32,
         availability: day_ahead.min(real_time) as u32,
@@ -49,7 +49,7 @@ fn pool_day(own: PoolTotals, other: PoolTotals, largest: LargerNet) -> PoolFigur
 }
 
 impl<G: AvailabilityRule, F: AvailabilityRule> RulePair<G, F> {
-    // The day's result under the two rules.
+    /// The day's result under the two rules, in W; a pool without an assessed hour has zeros.
     pub fn assess_day(&self, submitted: &DayRecord) -> DayResult
         ensures is { result.figures ≡ day_figures (rules_of G.means F.means self.now) (day_case submitted.now) }
         ensures law { DayLaw (rules_of G.means F.means self.now) (day_case submitted.now) }
@@ -57,7 +57,7 @@ impl<G: AvailabilityRule, F: AvailabilityRule> RulePair<G, F> {
     {
         let totals = self.assess_hours(submitted);
         let largest = submitted.larger_net();
-        // By name, as each pool is weighed with the other: a closure by pool would have to choose the other.
+        // A pool's own totals come first: each is weighed with the other's.
         DayResult {
             figures: DayFigures {
                 generic: pool_day(totals.generic, totals.flexible, largest),

@@ -1,16 +1,20 @@
-// A day of a month, and what a resource submits for it, within its limits.
+//! A day of a month, and what a resource submits for it, within its limits.
 ghost use Rattle.std.specs.Prelude.{◌≤◌};
 ghost use Rattle.assessment.specs.Records.{ShowingsWithin, BidsWithin, ExemptionsWithin, FlexibleAllowed};
 
 use crate::category::Category;
 use crate::settings::TradeDay;
 use crate::submission::{DaySubmission, Showing};
-use pools::pool::Pool;
+use pools::Pool;
 
+/// A resource's day within every limit of a submission. `DayRecord::new` makes it.
 #[derive(Clone, Copy, PartialEq, Eq, Debug)]
 pub struct DayRecord {
+    /// The day that is assessed, with its month.
     pub day: TradeDay,
+    /// The resource's category in that month.
     pub category: Category,
+    /// Showings, exemptions and bids, each 0 to 2,000,000 kW, and no exemption above its showing.
     pub submission: DaySubmission,
     ghost showings: { ShowingsWithin submission },
     ghost bids: { BidsWithin submission },
@@ -18,9 +22,10 @@ pub struct DayRecord {
     ghost flexible: { FlexibleAllowed category.number submission },
 }
 
-// The larger of a day's two net showings, in kW.
+/// The larger of a day's two net showings.
 #[derive(Clone, Copy, PartialEq, Eq, Debug)]
 pub(crate) struct LargerNet {
+    /// In kW, 0 to 2,000,000.
     pub kilowatts: u64,
     ghost within: { kilowatts ≤ 2000000 },
 }
@@ -30,7 +35,7 @@ impl DayRecord {
     ghost use Rattle.assessment.specs.Days.{net, larger_net};
     ghost use Rattle.pools.specs.PerPool.{entry_of};
 
-    // What is shown in the pool less what is exempt.
+    /// The pool's net showing: what is shown less what is exempt, 0 to 2,000,000 kW.
     pub(crate) fn net(&self, pool: Pool) -> u32
         ensures is { result ≡ net (entry_of self.now.submission.showings pool) }
         ensures within { result ≤ 2000000 }
@@ -39,6 +44,7 @@ impl DayRecord {
         shown.saturating_sub(exempt)
     }
 
+    /// The larger net showing, also where only one of the pools is assessed.
     pub(crate) fn larger_net(&self) -> LargerNet
         ensures { result.kilowatts ≡ larger_net self.now.submission }
     {

@@ -1,20 +1,24 @@
-// What is owed and available in watts: of a day as plain rows of a day table, as a day result within its limits, and in sums.
+//! What is owed and available in watts: of a day as plain rows of a day table, as a day result
+//! within its limits, and in sums.
 ghost use Rattle.std.specs.Prelude.{◌≡◌, ◌+◌, ◌<◌, ◌^◌};
 ghost use Rattle.assessment.specs.Lines.{FiguresWithin, plus};
 
-use pools::per_pool::PerPool;
+use pools::PerPool;
 use std::ops::Add;
 
+/// What is owed and what is available in a pool. Any two numbers: the limits are those of `DayResult`.
 #[derive(Clone, Copy, Default, PartialEq, Eq, Debug)]
 pub struct Figures<N> {
+    /// What the resource has to offer, in W.
     pub obligation: N,
+    /// What it offered towards that, in W.
     pub availability: N,
 }
 
-// A pool's figures of a day.
+/// A pool's figures of a day, in W.
 pub type PoolFigures = Figures<u32>;
 
-// Sums of such figures, which may need more than 32 bits.
+/// Sums of such figures, in W, which may need more than 32 bits.
 pub type Watts = Figures<u64>;
 
 impl From<PoolFigures> for Watts {
@@ -43,16 +47,19 @@ impl Add for Watts {
     }
 }
 
+/// A day's figures in each pool, in W.
 pub type DayFigures = PerPool<PoolFigures>;
 
-// A place of a day table: None where nothing is recorded.
+/// A place of a day table: None where nothing is recorded.
 pub type DayRow = Option<DayFigures>;
 
-// The places of a resource in a day table: one for each day that a month may have.
+/// The places of a resource in a day table: one for each day that a month may have.
 pub const DAY_PLACES: usize = 31;
 
+/// A day's figures within their limits: worked out by `RulePair::assess_day`, or of a row that `DayResult::of_row` checks.
 #[derive(Clone, Copy, PartialEq, Eq, Debug)]
 pub struct DayResult {
+    /// In W, in each pool: availability at most obligation, and obligation 0 to 2,000,000,000.
     pub figures: DayFigures,
     ghost within: { FiguresWithin figures },
 }

@@ -1,4 +1,4 @@
-// The flexible rule: the hours of each category, and economic bids only.
+//! The flexible rule: the hours of each category, and economic bids only.
 ghost use Rattle.assessment.specs.Rules.{flexible_rule};
 ghost use Rattle.std.proofs.Common.{rules};
 
@@ -9,6 +9,8 @@ use crate::submission::Bid;
 use crate::trade_month::DayKind;
 use crate::window::in_window;
 
+/// The flexible rule that ships. It assesses no hour in category 0, hours ending 6 to 22 of every day in category 1, the
+/// category's window on every day in 2 and on work days in 3. Self-schedules do not count.
 #[derive(Clone, Copy, PartialEq, Eq, Debug)]
 pub struct FlexibleRule;
 

@@ -1,4 +1,4 @@
-// The generic rule: its window on work days, and bids of either kind.
+//! The generic rule: its window on work days, and bids of either kind.
 ghost use Rattle.assessment.specs.Rules.{generic_rule};
 ghost use Rattle.std.proofs.Common.{rules};
 
@@ -9,6 +9,8 @@ use crate::submission::Bid;
 use crate::trade_month::DayKind;
 use crate::window::in_window;
 
+/// The generic rule that ships. It assesses the generic window on work days, in every category, and takes of the
+/// economic bid before it takes of the self-schedule.
 #[derive(Clone, Copy, PartialEq, Eq, Debug)]
 pub struct GenericRule;
 

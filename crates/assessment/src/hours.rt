@@ -1,4 +1,4 @@
-// The hours of a day: what each pool owes in them, and what each market gives.
+//! The hours of a day: what each pool owes in them, and what each market gives.
 ghost use Rattle.std.specs.Prelude.{◌≡◌, ◌+◌, ◌≤◌, cond, is_some, unwrap_or};
 ghost use Rattle.assessment.specs.Days.{day_case, in_all, generic_in, flexible_in, generic_due, flexible_due, flexible_taken, generic_taken, hour_of, hours_to};
 ghost use Rattle.assessment.specs.Pairs.{rules_of};
@@ -11,13 +11,12 @@ use crate::rule::AvailabilityRule;
 use crate::rule_pair::RulePair;
 use crate::submission::{Bid, HourBids};
 use crate::totals::PoolTotals;
-use pools::per_pool::PerPool;
-use pools::pool::Pool;
+use pools::{PerPool, Pool};
 
-// An hour's kW in each pool: what is owed, or what a market gives.
+/// An hour's kW in each pool: what is owed, or what a market gives.
 type Kilowatts = PerPool<u32>;
 
-// A pool's hour: what it owes there, None where its rule does not assess it, and what each market gives.
+/// A pool's hour: what it owes there, None where its rule does not assess it, and what each market gives.
 fn pool_hour(due: Option<u32>, day_ahead: u32, real_time: u32) -> PoolTotals
     requires capped { unwrap_or due 0 ≤ 2000000 }
     requires day_ahead_within { day_ahead ≤ unwrap_or due 0 }
@@ -36,7 +35,7 @@ fn pool_hour(due: Option<u32>, day_ahead: u32, real_time: u32) -> PoolTotals
 }
 
 impl<G: AvailabilityRule, F: AvailabilityRule> RulePair<G, F> {
-    // The flexible rule takes first, and the generic rule from what remains: each is asked by name.
+    /// What each rule takes of a market's bid: the flexible rule first, the generic rule from what it leaves.
     fn take_both(&self, owed: Kilowatts, bid: Bid) -> Kilowatts
         ensures flexible_is { result.flexible ≡ in_all (flexible_taken (rules_of G.means F.means self.now) owed.flexible bid) }
         ensures generic_is { result.generic ≡ in_all (generic_taken (rules_of G.means F.means self.now) owed.generic owed.flexible bid) }
@@ -54,8 +53,8 @@ impl<G: AvailabilityRule, F: AvailabilityRule> RulePair<G, F> {
         }
     }
 
-    // What each pool owes in the hour; None where its rule does not assess it. Where
-    // both do, the flexible showing is owed once, in its own pool.
+    /// What each pool owes in the hour, in kW; None where its rule does not assess it. Where
+    /// both do, the flexible showing is owed once, in its own pool.
     fn due_in(&self, submitted: &DayRecord, hour: u32) -> PerPool<Option<u32>>
         ensures generic_in { is_some result.generic ≡ generic_in (rules_of G.means F.means self.now) (day_case submitted.now) hour }
         ensures flexible_in { is_some result.flexible ≡ flexible_in (rules_of G.means F.means self.now) (day_case submitted.now) hour }
@@ -80,8 +79,8 @@ impl<G: AvailabilityRule, F: AvailabilityRule> RulePair<G, F> {
     {
         let due = self.due_in(submitted, hour);
         if due.generic.is_none() && due.flexible.is_none() {
-            // Most hours: nothing is owed, so no rule can take anything.
-            // For speed: it saves a fifth of the assessment's instructions.
+            // For speed: in most hours nothing is owed, so no rule can take anything. Passing them
+            // over saves a fifth of the assessment's instructions.
             return PerPool::default();
         }
         let owed = PerPool::of(|pool| due.get(pool).unwrap_or(0));
@@ -90,14 +89,13 @@ impl<G: AvailabilityRule, F: AvailabilityRule> RulePair<G, F> {
         PerPool::of(|pool| pool_hour(due.get(pool), day_ahead.get(pool), real_time.get(pool)))
     }
 
-    // The day's totals: each pool over its 24 hours.
+    /// The day's totals: each pool over its 24 hours.
     pub(crate) fn assess_hours(&self, submitted: &DayRecord) -> PerPool<PoolTotals>
         ensures { (p : Pool) → totals_of (entry_of result p) ≡ hours_to (rules_of G.means F.means self.now) (day_case submitted.now) p 24 }
     {
         let mut totals: PerPool<PoolTotals> = PerPool::default();
         for (hour, bids) in (1..).zip(&submitted.submission.hours) {
             let in_hour = self.assess_hour(submitted, hour, bids);
-            // No Add of PerPool: it would have to carry the precondition that each pool's sum has of its own.
             totals = PerPool::of(|pool| totals.get(pool) + in_hour.get(pool));
         }
         totals

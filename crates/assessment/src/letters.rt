@@ -1,4 +1,4 @@
-// The letter of each line state.
+//! The letter of each line state.
 ghost use Rattle.std.specs.Prelude.{◌≡◌, ◌∷◌, [], Some};
 ghost use Rattle.assessment.specs.Lines.{letter};
 
@@ -6,7 +6,7 @@ use crate::line::LineState;
 use std::fmt;
 
 impl LineState {
-    // Beside Display, since a statement takes the letter as a byte.
+    /// The state's letter in print, an ASCII byte: E, C, N or P.
     pub fn letter(self) -> u8
         ensures { result ≡ letter self }
     {

@@ -1,4 +1,4 @@
-// A resource's month by any two rules: its two lines, from its 31 day places.
+//! A resource's month by any two rules: its two lines, from its 31 day places.
 ghost use Rattle.std.specs.Prelude.{◌≡◌, ◌+◌, ◌*◌, ◌≤◌, IfSome, MatchOption};
 ghost use Rattle.assessment.specs.Laws.{LinesLaw};
 ghost use Rattle.assessment.specs.Lines.{RowsWithin, plus, has_hours, assessed_days, line_of, lines_of};
@@ -11,10 +11,10 @@ use crate::rule::AvailabilityRule;
 use crate::rule_pair::RulePair;
 use crate::settings::{MonthSettings, TradeDay};
 use crate::submission::HOURS;
-use pools::per_pool::PerPool;
+use pools::PerPool;
 use std::ops::Add;
 
-// The last hour ending of a day.
+/// The last hour ending of a day. `as` loses nothing: it is 24.
 const LAST_HOUR: u32 = HOURS as u32;
 
 fn rule_has_hours<R: AvailabilityRule>(rule: &R, day: &TradeDay, category: Category) -> bool
@@ -26,14 +26,13 @@ fn rule_has_hours<R: AvailabilityRule>(rule: &R, day: &TradeDay, category: Categ
 fn days_assessed<R: AvailabilityRule>(rule: &R, settings: &MonthSettings, category: Category) -> u32
     ensures { result ≡ assessed_days (R.means rule.now) settings.now.month category.number }
 {
-    // The chain of `MonthSettings::work_days` with another test: a function of both would take a closure, and a clause for it.
-    // `as` narrows a count of at most 31, so a TryFrom would have nothing to refuse.
+    // `as` loses nothing: the count is at most 31.
     (1..=settings.days)
         .filter(|day| rule_has_hours(rule, &settings.trade_day(*day), category))
         .count() as u32
 }
 
-// Watts of a pool, summed over days of a month.
+/// Watts of a pool, summed over days of a month: at most 62,000,000,000, so that a line's products fit 64 bits.
 #[derive(Clone, Copy, PartialEq, Eq, Debug)]
 struct MonthSum {
     watts: Watts,
@@ -41,7 +40,7 @@ struct MonthSum {
     ghost capped: { watts.obligation ≤ 62000000000 },
 }
 
-// By hand, as for a struct with ghost fields it cannot be derived.
+/// By hand: a struct with ghost fields cannot derive it.
 impl Default for MonthSum {
     ghost is_default = { λ sum. sum.watts ≡ record { obligation = 0; availability = 0 } };
 
@@ -67,7 +66,7 @@ impl Add<PoolFigures> for MonthSum {
 }
 
 impl MonthSum {
-    // The pool's line, by the days on which its rule has hours.
+    /// The pool's line, by the days on which its rule has hours.
     fn line(self, days: u32) -> Line
         ensures { result ≡ line_of self.watts.obligation self.watts.availability days }
     {
@@ -98,8 +97,8 @@ impl MonthSum {
 }
 
 impl<G: AvailabilityRule, F: AvailabilityRule> RulePair<G, F> {
-    // The two lines of a resource. None where there are not 31 places, or one is
-    // past a day result's limits.
+    /// The two lines of a resource, from its places of the day table. None if there are not 31 of them, or a row is past
+    /// a day result's limits. Every row counts, also one past the month's end.
     pub fn month_lines(
         &self,
         settings: &MonthSettings,
@@ -115,10 +114,8 @@ impl<G: AvailabilityRule, F: AvailabilityRule> RulePair<G, F> {
         let mut sums: PerPool<MonthSum> = PerPool::default();
         for row in rows {
             let day = DayResult::of_row(*row)?;
-            // No Add of PerPool: it would have to carry the precondition that each pool's sum has of its own.
             sums = PerPool::of(|pool| sums.get(pool) + day.figures.get(pool));
         }
-        // By name, as each rule is of its own type.
         let days = PerPool {
             generic: days_assessed(&self.generic, settings, category),
             flexible: days_assessed(&self.flexible, settings, category),

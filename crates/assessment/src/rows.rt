@@ -1,9 +1,9 @@
-// Day results as rows of a day table, and rows checked into day results.
+//! Day results as rows of a day table, and rows checked into day results.
 ghost use Rattle.std.specs.Prelude.{◌≡◌, MatchBool, MatchOption};
 ghost use Rattle.assessment.specs.Lines.{figures_in, PoolWithin, FiguresWithin, RowWithin};
 
 use crate::day_result::{DayFigures, DayResult, DayRow, PoolFigures};
-use pools::pool::Pool;
+use pools::Pool;
 
 const MOST_WATTS: u32 = 2_000_000_000;
 
@@ -20,15 +20,14 @@ fn each_within(figures: &DayFigures) -> bool
 }
 
 impl DayResult {
-    // The row that stores the result.
+    /// The row that stores the result.
     pub fn row(&self) -> DayRow
         ensures { result ≡ Some self.now.figures }
     {
         Some(self.figures)
     }
 
-    // The result in a row, zeros for an empty place; None past a day result's limits.
-    // No TryFrom, as an empty place holds no result to convert: its zeros are made here.
+    /// The result in a row, zeros for an empty place; None if the row is past a day result's limits.
     pub fn of_row(row: DayRow) -> Option<DayResult>
         ensures { MatchOption result (RowWithin row → ⊥) (λ d. d.figures ≡ figures_in row) }
     {

@@ -1,14 +1,18 @@
-// What a pool comes to over some hours of a day.
+//! What a pool comes to over some hours of a day.
 ghost use Rattle.std.specs.Prelude.{◌≡◌, ◌+◌, ◌*◌, ◌≤◌};
 
 use std::ops::Add;
 
-// The assessed hours, the kWh owed in them, and the kWh that each market gave.
+/// The assessed hours, the kWh owed in them, and the kWh that each market gave.
 #[derive(Clone, Copy, PartialEq, Eq, Debug)]
 pub struct PoolTotals {
+    /// How many of the hours are assessed, 0 to 24.
     pub hours: u64,
+    /// The hourly obligations summed, in kWh: at most 2,000,000 an assessed hour.
     pub owed: u64,
+    /// What the pool's rule took in the day-ahead market, in kWh: at most what is owed.
     pub day_ahead: u64,
+    /// What it took in the real-time market, likewise.
     pub real_time: u64,
     ghost few: { hours ≤ 24 },
     ghost capped: { owed ≤ 2000000 * hours },
@@ -16,7 +20,7 @@ pub struct PoolTotals {
     ghost real_time_within: { real_time ≤ owed },
 }
 
-// By hand, as for a struct with ghost fields it cannot be derived.
+/// By hand: a struct with ghost fields cannot derive it.
 impl Default for PoolTotals {
     ghost use Rattle.assessment.specs.Totals.{totals_of, totals_none};
 

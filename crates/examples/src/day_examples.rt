@@ -1,5 +1,5 @@
-// The examples of a single day. A weekday is Monday 4 June 2018 or the day
-// after it, a weekend day Saturday 2 June 2018.
+//! The examples of a single day. A weekday is Monday 4 June 2018 or the day
+//! after it, a weekend day Saturday 2 June 2018.
 use crate::example::{Check, Example};
 use crate::months::{JUNE_2018, JUNE_2018_EARLY};
 use crate::plan::{NOTHING, Offer, Plan, PlannedDay};
@@ -8,10 +8,10 @@ use crate::published::{
     PER_CENT_80, PER_CENT_100,
 };
 use crate::reading::{DayReading, Part};
-use assessment::submission::Bid;
-use pools::per_pool::PerPool;
-use pools::pool::Pool;
+use assessment::Bid;
+use pools::{PerPool, Pool};
 
+/// The examples of a single day, in the order of printing. What is shown and bid is in kW, exact figures in W or millionths.
 pub static DAY_EXAMPLES: [Example<PlannedDay, DayReading>; 10] = [
     Example {
         name: "Separate products on a weekday: 1 MW generic, nothing bid",

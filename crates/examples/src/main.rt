@@ -1,5 +1,5 @@
-// Works published examples of availability assessment through the library, and
-// prints each figure beside the published one.
+//! Works published examples of availability assessment through the library, and
+//! prints each figure beside the published one.
 #![tactic(auto)]
 
 mod comparison;
@@ -21,6 +21,7 @@ use day_examples::DAY_EXAMPLES;
 use month_examples::MONTH_EXAMPLES;
 use report::{HEAD, report};
 
+/// Prints every example and a last line of counts; an error where a figure differs.
 fn run(rt: &(impl Print + AllocGlobal)) -> anyhow::Result<()> {
     rt.println(HEAD)?;
     let tally = report(rt, &DAY_EXAMPLES, Tally::default())?;

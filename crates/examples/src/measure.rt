@@ -1,17 +1,23 @@
-// What a figure counts, and a figure in words.
+//! What a figure counts, and a figure in words.
 use std::fmt;
 
+/// What a figure counts.
 #[derive(Clone, Copy, Debug, PartialEq, Eq)]
 pub enum Measure {
+    /// W, of a day or of a month.
     Watts,
-    // Millionths, shown in per cent.
+    /// Millionths of a whole, shown in per cent.
     Share,
+    /// Days of a month.
     Days,
 }
 
+/// A figure that prints itself with its unit.
 #[derive(Clone, Copy, Debug, PartialEq, Eq)]
 pub struct Amount {
+    /// How many W, millionths or days.
     pub count: u64,
+    /// Which of these it counts.
     pub measure: Measure,
 }
 

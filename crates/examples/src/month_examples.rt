@@ -1,14 +1,15 @@
-// The examples of a whole month.
+//! The examples of a whole month.
 use crate::example::{Check, Example};
 use crate::months::{APRIL_2018, JUNE_2018};
 use crate::plan::{NOTHING, Offer, Plan};
 use crate::published::{MW_0_95, MW_1, MW_20_55, PER_CENT_50};
 use crate::reading::LineReading;
 use crate::stretch::{PlannedMonth, Stretch};
-use assessment::submission::Bid;
-use pools::per_pool::PerPool;
-use pools::pool::Pool;
+use assessment::Bid;
+use pools::{PerPool, Pool};
 
+/// The examples of a whole month, in the order of printing. What is shown and bid is in kW, exact figures in W, days or
+/// millionths.
 pub static MONTH_EXAMPLES: [Example<PlannedMonth, LineReading>; 6] = [
     Example {
         name: "The two weekdays of the separate products together",

@@ -1,6 +1,7 @@
-// The trade months of the examples.
-use assessment::trade_month::TradeMonth;
+//! The trade months of the examples, each without holiday marks.
+use assessment::TradeMonth;
 
+/// June 2018 with the generic window of hours 14 to 18 and both flexible windows of hours 16 to 20.
 pub const JUNE_2018: TradeMonth = TradeMonth {
     year: 2018,
     month: 6,
@@ -10,13 +11,14 @@ pub const JUNE_2018: TradeMonth = TradeMonth {
     category3_start: 16,
 };
 
-// Generic hours 1 to 5, category 2 hours 3 to 7.
+/// June 2018 with the generic window of hours 1 to 5 and the category 2 window of hours 3 to 7.
 pub const JUNE_2018_EARLY: TradeMonth = TradeMonth {
     generic_start: 1,
     category2_start: 3,
     ..JUNE_2018
 };
 
+/// April 2018 with the windows of `JUNE_2018`.
 pub const APRIL_2018: TradeMonth = TradeMonth {
     month: 4,
     ..JUNE_2018

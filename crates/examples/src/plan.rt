@@ -1,4 +1,4 @@
-// What a resource shows and bids on a day, and the day's assessment.
+//! What a resource shows and bids on a day, and the day's assessment.
 ghost use Rattle.std.specs.Prelude.{◌≡◌, ◌<◌, MatchResult};
 ghost use Rattle.examples.specs.Plans.{bid_in, hours_of, submission_of, planned, DayRefused};
 ghost use Rattle.examples.specs.declared.refusal.Refusal.TheVariants.{NoSuchCategory};
@@ -6,38 +6,38 @@ ghost use Rattle.examples.specs.declared.refusal.Refusal.TheVariants.{NoSuchCate
 use crate::example::Case;
 use crate::reading::DayReading;
 use crate::refusal::Refusal;
-use assessment::category::Category;
-use assessment::day_record::DayRecord;
-use assessment::day_result::{DayFigures, DayResult};
-use assessment::rule_pair::SHIPPED_RULES;
-use assessment::settings::MonthSettings;
-use assessment::submission::{Bid, DaySubmission, HOURS, HourBids, Showing};
-use pools::per_pool::PerPool;
+use assessment::{
+    Bid, Category, DayFigures, DayRecord, DayResult, DaySubmission, HOURS, HourBids, MonthSettings,
+    SHIPPED_RULES, Showing,
+};
+use pools::PerPool;
 use std::array;
 
-// By hand, as a static table of examples calls no default.
+/// No bid: 0 kW in both ways of offering.
 pub const NOTHING: Bid = Bid {
     economic: 0,
     self_scheduled: 0,
 };
 
-// The bids of a day by hour ending, alike in both markets.
+/// The bids of a day by hour ending, in kW, alike in both markets.
 #[derive(Clone, Copy, PartialEq, Eq, Debug)]
 pub enum Offer {
-    // The same bid in every hour.
+    /// The same bid in every hour.
     EveryHour(Bid),
-    // Nothing in one hour, the bid in every other.
+    /// Nothing in one hour ending, the bid in every other.
     AllBut(u32, Bid),
-    // One bid up to an hour, another after it.
+    /// One bid up to an hour ending and in it, another after it.
     Until(u32, Bid, Bid),
 }
 
-// A resource's day: its category, the kW shown in each pool, and its bids.
+/// A resource's day: its category, what it is shown with, and its bids. Nothing is exempt.
 #[derive(Clone, Copy, PartialEq, Eq, Debug)]
 pub struct Plan {
-    // A number, as published: `category_of` tests it.
+    /// A number as published, 0 to 3: `category_of` tests it.
     pub category: u32,
+    /// The kW shown in each pool.
     pub shown: PerPool<u32>,
+    /// The bids of its hours.
     pub offer: Offer,
 }
 
@@ -55,7 +55,7 @@ impl Offer {
     fn hours(self) -> [HourBids; HOURS]
         ensures { result ≡ hours_of self }
     {
-        // from_fn hands a usize; below 24 it fits a u32, for which there is no From.
+        // `as` loses nothing: `passed` is below 24.
         array::from_fn(|passed| HourBids::from(self.bid_in(passed as u32 + 1)))
     }
 }
@@ -74,22 +74,25 @@ impl Plan {
     }
 }
 
-// The category of a published number.
+/// The category of a published number; a number above 3 is refused.
 pub(crate) fn category_of(number: u32) -> Result<Category, Refusal>
     ensures { MatchResult result (λ c. c.number ≡ number) (λ e. (e ≡ NoSuchCategory) × (3 < number)) }
 {
     Category::try_from(number).map_err(|_| Refusal::NoSuchCategory)
 }
 
-// A day of the month, and what is planned for it.
+/// A day of the month, and what is planned for it.
 #[derive(Clone, Copy, PartialEq, Eq, Debug)]
 pub struct PlannedDay {
+    /// Its number in the month, from 1.
     pub day: u32,
+    /// What is shown and bid on it.
     pub plan: Plan,
 }
 
 impl PlannedDay {
-    // The day's result by the two rules that ship.
+    /// The day's result by the two rules that ship; refused if the month lacks the day, there is no such category, or the
+    /// submission breaks a limit.
     pub(crate) fn assess(&self, settings: &MonthSettings) -> Result<DayResult, Refusal>
         ensures { MatchResult result (λ d. d.figures ≡ planned settings.now.month self.now.day self.now.plan) (DayRefused settings.now.month self.now.day self.now.plan) }
     {

@@ -1,4 +1,4 @@
-// What is read from a day's figures and from a month's lines.
+//! What is read from a day's figures and from a month's lines.
 ghost use Rattle.std.specs.Prelude.{◌≡◌, ℕ, ◌+◌, MatchResult};
 ghost use Rattle.examples.specs.Measures.{day_measure, line_measure};
 ghost use Rattle.examples.specs.declared.measure.Measure.{Measure};
@@ -8,15 +8,16 @@ ghost use Rattle.examples.specs.Readings.{millionths, average, in_part, from_day
 
 use crate::measure::Measure;
 use crate::refusal::Refusal;
-use assessment::day_result::{DayFigures, Watts};
-use assessment::line::{Line, LineState, MonthLines};
-use pools::pool::Pool;
+use assessment::{DayFigures, Line, LineState, MonthLines, Watts};
+use pools::Pool;
 use std::fmt;
 
-// A pool of a day, or the two together. No Option<Pool>: the two together are no absence, and have a word of their own.
+/// A pool, or the two together.
 #[derive(Clone, Copy, Debug, PartialEq, Eq)]
 pub enum Part {
+    /// The figures of this pool.
     Of(Pool),
+    /// The figures of both pools, added.
     Combined,
 }
 
@@ -36,49 +37,64 @@ impl fmt::Display for Part {
     }
 }
 
-// What is read from a worked example.
+/// What is read from a worked example.
 pub trait Reading: Copy {
-    // What the library gives for the example.
+    /// What the library gives for the example.
     type Worked: Drop;
-    // Whose figure is read.
+    /// Whose figure is read: a pool's, or for a day also that of both together.
     type Part: Copy + Into<Part>;
 
+    /// The figure that `read` answers.
     ghost figure_of: { Self.Worked → Self.Part → Self → ℕ };
 
+    /// Why there is no figure.
     ghost refuses: { Self.Worked → Self.Part → Refusal → Type 0 };
 
+    /// What the figure counts.
     ghost measure_of: { Self → Measure };
 
+    /// The figure, in W, days or millionths as `measure` tells; refused where working it out passes 64 bits.
     fn read(self, worked: &Self::Worked, part: Self::Part) -> Result<u64, Refusal>
         ensures { MatchResult result (λ x. x ≡ figure_of worked.now part self) (refuses worked.now part) };
 
+    /// What the figure counts.
     fn measure(self) -> Measure
         ensures { result ≡ measure_of self };
 
+    /// The figure's name in print.
     fn name(self, worked: &Self::Worked, part: Self::Part) -> &'static str;
 }
 
-// Watts, or the share of the obligation that was available.
+/// What is read from a day's figures.
 #[derive(Clone, Copy, Debug, PartialEq, Eq)]
 pub enum DayReading {
+    /// The obligation, in W.
     Obligation,
+    /// The availability, in W.
     Availability,
+    /// The availability in millionths of the obligation; 0 if nothing is owed.
     Share,
 }
 
-// Sums over the month in watts, the share of one in the other, the days
-// assessed, watts on average over these, and the line's quantity.
+/// What is read from a line.
 #[derive(Clone, Copy, Debug, PartialEq, Eq)]
 pub enum LineReading {
+    /// The obligation summed over the month, in W.
     Obligation,
+    /// The availability summed likewise, in W.
     Availability,
+    /// The sum of availability in millionths of that of obligation; 0 if nothing is owed.
     Share,
+    /// The days assessed, 0 to 31.
     Days,
+    /// The average capacity in W: the obligation over the days assessed, rounded down; 0 without such days.
     Average,
+    /// The line's quantity, in W.
     Quantity,
 }
 
-// Availability in millionths of the obligation, refused where that passes 64 bits.
+/// Availability in millionths of the obligation, 0 if nothing is owed; refused where a million times the availability
+/// passes 64 bits.
 fn share(availability: u64, obligation: u64) -> Result<u64, Refusal>
     ensures { MatchResult result (λ x. x ≡ millionths availability obligation) (ShareRefused availability) }
 {
@@ -94,7 +110,7 @@ fn average_over(watts: u64, days: u32) -> u64
     watts.checked_div(u64::from(days)).unwrap_or(0)
 }
 
-// The figures of a pool, or of both together.
+/// The figures of a pool, or of both together.
 fn watts_in(figures: &DayFigures, part: Part) -> Watts
     ensures { result ≡ in_part figures.now part }
 {
@@ -174,7 +190,7 @@ impl Reading for LineReading {
         }
     }
 
-    // A quantity is named by the line's state.
+    /// A quantity is named by the line's state.
     fn name(self, lines: &MonthLines, pool: Pool) -> &'static str {
         match (self, lines.get(pool).state) {
             (LineReading::Obligation, _) => "obligation, summed",

@@ -1,15 +1,16 @@
-// The printed report: a row for each figure, example by example.
+//! The printed report: a row for each figure, example by example.
 use crate::comparison::Tally;
 use crate::example::{Case, Check, Example};
 use crate::measure::Amount;
 use crate::reading::{Part, Reading};
 use crate::refusal::Refusal;
-use assessment::settings::MonthSettings;
+use assessment::MonthSettings;
 
-// The heads of the columns.
+/// The heads of the columns.
 pub const HEAD: &str =
     "figure                                worked out        expected   published";
 
+/// Prints a check's row, and counts it.
 fn report_check<R: Reading>(
     rt: &(impl Print + AllocGlobal),
     worked: &R::Worked,
@@ -33,6 +34,8 @@ fn report_check<R: Reading>(
     Ok(tally.counted(&comparison))
 }
 
+/// Prints the examples with their figures and notes, and counts the figures. An error where the library refuses an
+/// example, or where printing fails.
 pub(crate) fn report<C: Case<R>, R: Reading>(
     rt: &(impl Print + AllocGlobal),
     examples: &[Example<C, R>],

@@ -1,4 +1,4 @@
-// A month as stretches of like days, and its lines.
+//! A month as stretches of like days, and its lines.
 ghost use Rattle.std.specs.Prelude.{◌≡◌, MatchResult};
 ghost use Rattle.assessment.specs.Days.{both};
 ghost use Rattle.assessment.specs.Lines.{lines_of};
@@ -9,17 +9,17 @@ use crate::example::Case;
 use crate::plan::{Plan, PlannedDay, category_of};
 use crate::reading::LineReading;
 use crate::refusal::Refusal;
-use assessment::day_result::{DAY_PLACES, DayRow};
-use assessment::line::MonthLines;
-use assessment::rule_pair::SHIPPED_RULES;
-use assessment::settings::MonthSettings;
+use assessment::{DAY_PLACES, DayRow, MonthLines, MonthSettings, SHIPPED_RULES};
 use std::array;
 
-// The same plan on each day from the first to the last.
+/// The same plan on each day from the first to the last, both included.
 #[derive(Clone, Copy, PartialEq, Eq, Debug)]
 pub struct Stretch {
+    /// The first day's number in the month, from 1.
     pub first: u32,
+    /// The last day's.
     pub last: u32,
+    /// What is shown and bid on each of the days.
     pub plan: Plan,
 }
 
@@ -31,16 +31,17 @@ impl Stretch {
     }
 }
 
-// A month of a resource, given as stretches of like days.
+/// A month of a resource, given as stretches of like days.
 #[derive(Clone, Copy, PartialEq, Eq, Debug)]
 pub struct PlannedMonth {
-    // The category of the resource's lines: a number, as published.
+    /// The category of the resource's lines: a number as published, 0 to 3. The plans name their own.
     pub category: u32,
+    /// The stretches. A day that is in several has the plan of the first of them; a day in none has an empty row.
     pub stretches: &'static [Stretch],
 }
 
 impl PlannedMonth {
-    // The plan of the first stretch that has the day.
+    /// The plan of the first stretch that has the day.
     fn plan_on(&self, day: u32) -> Option<Plan>
         ensures { result ≡ plan_on self.now.stretches.now day }
     {
@@ -50,7 +51,7 @@ impl PlannedMonth {
             .map(|stretch| stretch.plan)
     }
 
-    // The row of a day, empty where no stretch has it.
+    /// The row of a day, empty where no stretch has it.
     fn row_on(&self, settings: &MonthSettings, day: u32) -> Result<DayRow, Refusal>
         ensures { MatchResult result (λ row. row ≡ row_on settings.now.month self.now.stretches.now day) (RowRefused settings.now.month self.now.stretches.now day) }
     {
@@ -60,12 +61,12 @@ impl PlannedMonth {
         }
     }
 
-    // The rows of the days 1 to 31, or the first refusal.
+    /// The rows of the days 1 to 31, or the first refusal.
     fn rows(&self, settings: &MonthSettings) -> Result<[DayRow; DAY_PLACES], Refusal>
         ensures { MatchResult result (λ all. all ≡ rows_of settings.now.month self.now.stretches.now) (RowsRefused settings.now.month self.now.stretches.now) }
     {
-        // Not try_from_fn: its contract does not say which month and stretches its calls were made with.
-        // from_fn hands a usize; below 31 it fits a u32, for which there is no From.
+        // from_fn and then try_map: the contract of try_from_fn does not say with which month and stretches it calls.
+        // `as` loses nothing: `past` is below 31.
         let rows: [_; DAY_PLACES] = array::from_fn(|past| self.row_on(settings, past as u32 + 1));
         rows.try_map(|row| row)
     }
@@ -76,7 +77,7 @@ impl Case<LineReading> for PlannedMonth {
 
     ghost refuses = { λ p m. LinesRefused m p.category p.stretches.now };
 
-    // The two lines of the resource, by the two rules that ship.
+    /// The two lines of the resource, by the two rules that ship.
     fn work(&self, settings: &MonthSettings) -> Result<MonthLines, Refusal> {
         let category = category_of(self.category)?;
         let rows = self.rows(settings)?;

@@ -69,7 +69,7 @@ module _ {S : Type 0} (m : FundMeaning S) (sound : S → Type 0) (law : Lawful m
       let w = still s (after m s c) h.pool h.shown e h.posted in
       advisory_leaves_binding (after m s c) cs h.stays w.0 h.rest r.1 q ∙ w.1 q
 
-  -- each posting uses at most one place
+  -- no posting uses more than one place
   places_used : (s : S) (cs : List Call) → sound s → Postings cs → Run m s cs → m.free s ≤ m.free (end m s cs) + length cs
   places_used s [] k o r = omega arith
   places_used s (c ∷ cs) k o r =

@@ -61,7 +61,7 @@ module _ {S : Type 0} (m : FundMeaning S) where
   standing_by lower_book l = m.standing l
   standing_by (own_entries e) l = Advisory
 
-  -- In advisory standing all places are free.
+  -- While it stands advisory, each of its places is free.
   abbrev pub free_by : Showing → S → ℕ
   free_by lower_book l = m.free l
   free_by (own_entries e) l = m.size l

@@ -1,4 +1,4 @@
-// The balance book: nothing but a balance for each pool, so that it always has places.
+//! The balance book: nothing but a balance for each pool, so that it always has places.
 ghost use Rattle.std.specs.Prelude.{◌≡◌};
 ghost use Rattle.fund.specs.Balances.{Balances, Within};
 ghost use Rattle.fund.specs.BalanceBook.{balances_of, balance_book, no_money};
@@ -9,19 +9,19 @@ use crate::balance::Balance;
 use crate::book::FundBook;
 use crate::fault::BookFault;
 use crate::standing::Standing;
-use pools::per_pool::PerPool;
-use pools::pool::Pool;
+use pools::{PerPool, Pool};
 
+/// The size that the book tells, the least that any book has. As many places are always free.
 const SIZE: usize = 8;
 
-// Nothing compares or prints it, so it has no more derives.
+/// A fund book that refuses no posting for want of a place. It takes no advisory months.
 #[derive(Drop)]
 pub struct BalanceBook {
     balances: PerPool<Balance>,
 }
 
 impl BalanceBook {
-    // A book that holds no money.
+    /// A book that holds no money.
     pub fn new() -> BalanceBook
         ensures { balances_of result ≡ no_money }
     {

@@ -1,18 +1,21 @@
-// Calls over a book of any kind, and the laws that every book keeps.
+//! Calls over a book of any kind, and the laws that every book keeps.
 ghost use Rattle.std.specs.Prelude.{◌≡◌};
 ghost use Rattle.fund.specs.Laws.{RunsGoOn, Conserves, AdvisoryLeavesBinding, Roomy, with_room, RulingOffMakesRoom, FourPostingsHavePlaces};
 
 use crate::book::FundBook;
-use pools::pool::Pool;
+use pools::Pool;
 
-// A pool's balances.
+/// A pool's balances, as a book tells them.
 #[derive(Clone, Copy, PartialEq, Eq, Debug)]
 pub struct Account {
+    /// What the pool holds by its binding months, in cents, 0 to `LIMIT`.
     pub binding: u64,
+    /// What it holds with the postings of an advisory month on top, in cents, 0 to `LIMIT`.
     pub shown: u64,
 }
 
-// Looks up a pool's balances. No run of calls loses a cent of the binding one, and none made in advisory standing moves it.
+/// Looks up both balances of a pool. No run of calls loses a cent of the binding one, and no posting that is made in advisory
+/// standing moves it.
 #[tactic(auto, using(crate::specs::LawsLemmas::runs_go_on, crate::specs::LawsLemmas::conserves, crate::specs::LawsLemmas::advisory_leaves_binding))]
 pub fn account_of<B: FundBook>(book: &B, pool: Pool) -> Account
     ensures binding { result.binding ≡ B.means.binding (B.state book.now) pool }
@@ -27,7 +30,8 @@ pub fn account_of<B: FundBook>(book: &B, pool: Pool) -> Account
     }
 }
 
-// Rules the book off if fewer places are free than that many postings want. For up to 6 postings there are then places.
+/// Rules the book off if fewer places are free than that many postings want. For up to 6 postings there are then places; for
+/// more there may be none. Balances and standing stay.
 #[tactic(auto, using(crate::specs::LawsLemmas::roomy, crate::specs::LawsLemmas::ruling_off_makes_room, crate::specs::LawsLemmas::four_postings_have_places))]
 pub fn make_room<B: FundBook>(book: &mut B, postings: usize)
     ensures made { B.state book.new ≡ with_room B.means (B.state book.old) postings }

@@ -1,16 +1,20 @@
-// What is told of a fault: its number, the letter of the layer that it comes from, and what it is about.
+//! What is told of a fault: its number, the letter of the layer that it comes from, and what it is about.
 ghost use Rattle.fund.specs.Faults.{label_words};
 
 use std::fmt;
 
+/// The label of a fault. It is generic in the place: a pool, a resource's day, a byte offset.
 #[derive(Clone, Copy, PartialEq, Eq, Debug)]
 pub struct Label<P> {
+    /// The number of the fault, 30 to 34 of a book. The layers share no number, so it tells the fault by itself.
     pub number: u8,
+    /// The letter of the layer, B for a book.
     pub layer: char,
+    /// What the fault is about.
     pub place: P,
 }
 
-// Only where a place may be missing: a statement's label has an offset, and is printed as bytes.
+/// In print: the number, the letter and the place if it has one, parted by spaces.
 impl<P: fmt::Display> fmt::Display for Label<Option<P>> {
     ghost output = { λ l. label_words P.output l };
 

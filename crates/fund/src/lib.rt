@@ -1,4 +1,4 @@
-// The money of the two pools: fund books, and one function that totals amounts.
+//! The money of the two pools: fund books, and one function that totals amounts.
 #![tactic(auto)]
 
 mod balance;
@@ -11,6 +11,15 @@ pub mod label;
 pub mod overlay;
 pub mod posting;
 pub mod standing;
-#[cfg(test)]
-mod tests;
 pub mod total;
+
+pub use balance_book::BalanceBook;
+pub use book::{FundBook, LIMIT};
+pub use every_book::{Account, account_of, make_room};
+pub use fault::BookFault;
+pub use journal::{FEWEST_PLACES, Journal, MOST_PLACES, RefusedPlaces};
+pub use label::Label;
+pub use overlay::Overlay;
+pub use posting::{Direction, Posting, Side};
+pub use standing::Standing;
+pub use total::TellsAmount;

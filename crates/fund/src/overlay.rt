@@ -1,4 +1,4 @@
-// The advisory overlay: over any other book, it keeps the balances of an advisory month to itself.
+//! The advisory overlay: over any other book, it keeps the balances of an advisory month to itself.
 ghost use Rattle.std.specs.Prelude.{◌≡◌};
 ghost use Rattle.fund.specs.Overlay.{Overlaid, OverlaidSound, overlaid_of, over, overlay_book, IsABook, LowerStaysBinding, LowerUntouched};
 ghost use Rattle.fund.specs.Overlaid.{overlay_lawful};
@@ -8,19 +8,19 @@ use crate::balance::Balance;
 use crate::book::FundBook;
 use crate::fault::BookFault;
 use crate::standing::Standing;
-use pools::per_pool::PerPool;
-use pools::pool::Pool;
+use pools::{PerPool, Pool};
 
-// In an advisory month it shows entries of its own, else the lower book.
-// Nothing compares or prints it, so it has no more derives.
+/// A fund book over another, the lower book, which it keeps binding. In an advisory month it shows entries of its own, else the
+/// lower book. It takes advisory months, whatever the lower book takes.
 #[derive(Drop)]
 pub struct Overlay<B: FundBook> {
     lower: B,
+    /// The shown balances of an advisory month; None in binding standing.
     entries: Option<PerPool<Balance>>,
 }
 
 impl<B: FundBook> Overlay<B> {
-    // An overlay over the book, which it stands binding.
+    /// An overlay over the book, which it stands binding. No book refuses that.
     #[tactic(auto, using(crate::specs::Overlaid::overlay_lawful, crate::specs::Overlaid::lower_stays_binding, crate::specs::Overlaid::lower_untouched))]
     pub fn over(mut lower: B) -> Overlay<B>
         ensures made { overlaid_of B.state result ≡ over B.means (B.state lower) }

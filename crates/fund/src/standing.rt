@@ -1,22 +1,24 @@
-// The standing in which a book is kept.
+//! The standing in which a book is kept.
 ghost use Rattle.std.specs.Prelude.{◌≡◌, Some, MatchResult};
 ghost use Rattle.fund.specs.Names.{standing_word, ReadsStanding};
 ghost use Rattle.fund.specs.declared.fault.BookFault.TheVariants.{NoAdvisoryMonths};
 ghost use Rattle.fund.specs.declared.standing.Standing.TheVariants.{Binding, Advisory};
 
 use crate::fault::BookFault;
-use pools::out_of_range::OutOfRange;
+use pools::OutOfRange;
 use std::fmt;
 
-// A binding month moves money; an advisory one only shows what it would move.
+/// Whether postings move money. A month is settled in one standing.
 #[derive(Clone, Copy, PartialEq, Eq, Debug)]
 pub enum Standing {
+    /// Postings move money.
     Binding,
+    /// Postings only show what the money would be, until the book stands binding again.
     Advisory,
 }
 
 impl Standing {
-    // Beside Display, since a statement takes the word as bytes.
+    /// The word that is printed: BINDING or ADVISORY.
     pub fn word(self) -> &'static str
         ensures { result.now ≡ standing_word self }
     {
@@ -26,7 +28,7 @@ impl Standing {
         }
     }
 
-    // What a book that takes no advisory months answers when it is stood.
+    /// What a book that takes no advisory months answers when it is stood: advisory is refused with `NoAdvisoryMonths`.
     pub(crate) fn only_binding(self) -> Result<(), BookFault>
         ensures { MatchResult result (λ _. self ≡ Binding) (λ e. (self ≡ Advisory) × (e ≡ NoAdvisoryMonths)) }
     {
@@ -37,6 +39,7 @@ impl Standing {
     }
 }
 
+/// 0 is binding, 1 advisory; any other number is handed back.
 impl TryFrom<u32> for Standing {
     type Error = OutOfRange;
 

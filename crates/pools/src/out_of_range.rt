@@ -1,7 +1,7 @@
-// The error of a conversion that is given a number outside the limits.
+//! The error of a conversion that is given a number outside the limits.
 use thiserror::Error;
 
-// The number that was given.
+/// A number outside the limits of the conversion that it was given to. The field is that number.
 #[derive(Clone, Copy, PartialEq, Eq, Debug, Drop, Error)]
 #[error("{0} is outside the limits")]
 pub struct OutOfRange(pub u32);

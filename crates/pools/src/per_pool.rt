@@ -1,4 +1,4 @@
-// A table of two entries, one for each pool.
+//! A table of two entries, one for each pool.
 ghost use Rattle.std.specs.Borrow.{follows, sem};
 ghost use Rattle.std.specs.Prelude.{◌≡◌};
 ghost use Rattle.pools.specs.PerPool.{entry_of, with_entry};
@@ -8,15 +8,18 @@ ghost use Rattle.pools.specs.declared.pool.Pool.TheVariants.{Generic, Flexible};
 
 use crate::pool::Pool;
 
+/// An entry for each pool; unit and range are those of `T`.
 #[derive(Clone, Copy, Default, PartialEq, Eq, Debug)]
 pub struct PerPool<T> {
+    /// The generic pool's entry.
     pub generic: T,
+    /// The flexible pool's entry.
     pub flexible: T,
 }
 
 impl<T> PerPool<T> {
-    // What the function answers for each pool. A clause for each: with one over the pool, three proofs of `fund` stayed open,
-    // of how a balance book starts, an overlay stands and a journal is ruled off (tried).
+    /// What the function answers for each pool, asked for the generic pool first. The contract has a clause for each
+    /// pool: with one clause over both, proofs of `fund` stay open.
     pub fn of<F: Fn(Pool) -> T>(entry: F) -> PerPool<T>
         requires { (p : Pool) → F.pre entry p }
         ensures generic { F.post entry Generic result.generic }
@@ -28,7 +31,7 @@ impl<T> PerPool<T> {
         }
     }
 
-    // Lends the pool's entry, so that a change through it cannot reach the other.
+    /// Lends the pool's entry, so that a change through it cannot reach the other.
     pub fn entry(&mut self, pool: Pool) -> &mut T
         ensures* lends { sem 𝓛 (follows (the_row T.row) T.row self.entry.ghost_name result.ghost_name (λ w. with_entry self.old pool w)) }
         ensures value { result.now ≡ entry_of self.old pool }
@@ -41,6 +44,7 @@ impl<T> PerPool<T> {
 }
 
 impl<T: Copy> PerPool<T> {
+    /// A copy of the pool's entry.
     pub fn get(&self, pool: Pool) -> T
         ensures { result ≡ entry_of self.now pool }
     {

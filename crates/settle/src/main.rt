@@ -1,12 +1,11 @@
-// Reads a month file from standard input, and writes its statement, or its refusal, to standard output.
+//! Reads a month file from standard input, and writes its statement, or its refusal, to standard output.
 #![tactic(auto)]
 
-use statement::job::settle_file;
-use statement::no_statement::NoStatement;
+use statement::{NoStatement, settle_file};
 use std::io::{Read, Write};
 use std::process::ExitCode;
 
-// The status tells a statement from a refusal.
+/// The status tells a statement from a refusal.
 fn run(rt: &HostRuntime) -> anyhow::Result<ExitCode> {
     let mut file = Vec::new(rt.alloc());
     rt.stdin().read_to_end(&mut file)?;

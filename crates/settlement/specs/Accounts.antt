@@ -47,7 +47,7 @@ owed_by r m p i = sum_by (λ d. if_of d i (entry_of (figures_for r m d) p).oblig
 abbrev pub given_by : Rules → MonthRun → Pool → ℕ → ℕ
 given_by r m p i = sum_by (λ d. if_of d i (entry_of (figures_for r m d) p).availability) m.records
 
--- the line of resource i in a pool, worked out by the two rules from the month's open, roster and taken records
+-- the line of resource i in a pool, from the O and A above and, as N, the days of the month on which the pool's rule has hours
 abbrev pub worked_line : Rules → MonthRun → Pool → ℕ → Line
 worked_line r m p i =
     line_of (owed_by r m p i) (given_by r m p i) (assessed_days (rule_in r p) m.terms.month (category_of m.roster i))
@@ -90,8 +90,9 @@ PricedAt price rate e =
     × (e.line.state ≡ Neutral → e.cents ≡ 0)
     × (e.line.state ≡ Empty → e.cents ≡ 0)
 
--- No payment passes 4.5 per cent, and no charge 94.5 per cent, of the price times the average capacity O / N in exact megawatts.
--- Multiplied out, so that there is no fraction.
+-- The two ceilings. At the price, a line's average capacity, O / N in exact megawatts, comes to some cents: a paid line gets at
+-- most 4.5 per cent of these, and a charged line owes at most 94.5 per cent. Both sides are multiplied out, so that there is no
+-- fraction.
 abbrev pub BelowCeiling : ℕ → LineEntry → Type 0
 BelowCeiling price e =
     (e.line.state ≡ Paid → e.cents * e.line.days * 1000000000 ≤ 45 * price * e.line.obligation)
@@ -99,7 +100,8 @@ BelowCeiling price e =
 
 -- what is shown of one closed month in one pool
 pub record Settled (r : Rules) (c : MonthClosed) (p : Pool) : Type 0 where
-  -- its lines are those worked out by the two rules from its open, roster and taken records, and the table has no others
+  -- the pool's lines in the table are those that the rules give for the month's terms, its roster and the days recorded in it;
+  -- and the table has no lines but those of the two pools
   pub from_records : map (λ (e : LineEntry). e.line) (returned_lines c p) ≡ worked_lines r c.month p
   pub no_others : length c.lines ≡ 2 * length c.month.roster
   -- its charges and payments are its lines' cents
@@ -114,26 +116,26 @@ pub record Settled (r : Rules) (c : MonthClosed) (p : Pool) : Type 0 where
   pub covered : told Payments (returned_lines c p) ≤ fund_before c p
   pub little_left : (entry_of c.pools p).rate < 3 * price_of c → 0 < told EligibleQuantity (returned_lines c p)
       → fund_before c p - told Payments (returned_lines c p) < sum_by (λ e. if_paid e.line.state 1) (returned_lines c p) + megawatts_begun (told EligibleQuantity (returned_lines c p))
-  -- no payment passes 4.5 per cent, and no charge 94.5 per cent
+  -- each line is within its ceiling
   pub ceilings : Each (BelowCeiling (price_of c)) (returned_lines c p)
 
 -- an amount of a binding month, else 0; a month is binding by its open
 abbrev pub if_binding : MonthClosed → ℕ → ℕ
 if_binding c n = cond (c.month.terms.standing == 0) n 0
 
--- charges of closed binding months
+-- what a pool's lines were charged in all binding months that were closed
 abbrev pub charged : Pool → List Event → ℕ
 charged p [] = 0
 charged p (month_closed c ∷ es) = if_binding c (told Charges (returned_lines c p)) + charged p es
 charged p (fund_released xs ∷ es) = charged p es
 
--- payments of those months
+-- what they were paid in these months
 abbrev pub paid : Pool → List Event → ℕ
 paid p [] = 0
 paid p (month_closed c ∷ es) = if_binding c (told Payments (returned_lines c p)) + paid p es
 paid p (fund_released xs ∷ es) = paid p es
 
--- releases: what the load entries got
+-- what was released of a pool: the shares in the load entries that came back
 abbrev pub given_out : Pool → List Event → ℕ
 given_out p [] = 0
 given_out p (month_closed c ∷ es) = given_out p es
@@ -145,9 +147,10 @@ EveryMonth r [] = Unit {0}
 EveryMonth r (month_closed c ∷ es) = ((p : Pool) → Settled r c p) × EveryMonth r es
 EveryMonth r (fund_released xs ∷ es) = EveryMonth r es
 
--- In each pool, opening balance plus charges of closed binding months equals payments of those months plus releases plus
--- binding balance; the settlement has noted the opening balances as they were looked up; and every closed month, binding
--- or advisory, is settled as above.
+-- What holds where a run ends. The equation of the fund, in each pool: what the pool held at the start, with what binding months
+-- have charged since, is what those months paid, what was released, and what the pool now holds by its binding months. Also: the
+-- settlement's opening balances are those looked up in the book that the start was handed; and each closed month is settled as
+-- above, advisory or not.
 pub record AccountsHold (r : Rules) (h : History) (opening binding : Pool → ℕ) : Type 0 where
   pub fund : (p : Pool) → h.opening p + charged p h.past ≡ paid p h.past + given_out p h.past + binding p
   pub noted : (p : Pool) → opening p ≡ h.opening p

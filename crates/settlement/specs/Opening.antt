@@ -33,7 +33,7 @@ MayOpen (release_due d) = ⊥
 abbrev pub TermsWithin : MonthTerms → Type 0
 TermsWithin t = MonthWithin t.month × (t.price ≤ 500000) × (t.standing ≤ 1)
 
--- the first month may be any, each later one is the next
+-- any month may come first; after that, only the one that follows the last closed
 abbrev pub Follows : Phase → TradeMonth → Type 0
 Follows fresh m = Unit {0}
 Follows (open_at n p) m = ⊥

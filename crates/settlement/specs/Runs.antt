@@ -1,4 +1,4 @@
--- Runs of a settlement from its start, and the history of its taken calls, by what they were handed and returned.
+-- Runs of a settlement from its start. Each has a history: what its taken calls got, and what they gave back.
 use Rattle.std.specs.Prelude.{◌≡◌, ℕ, List, [], ◌∷◌, Some, None, Ok, Err, Option, Result}
 use Rattle.assessment.specs.Days.{Rules}
 use Rattle.assessment.specs.Figures.{DayFigures, DayRow}
@@ -36,7 +36,7 @@ pub data Event : Type 0 where
   month_closed : MonthClosed → Event
   fund_released : List LoadEntry → Event
 
--- the open month, with the day table as the last taken call left it
+-- the open month, and how the day table stood after the latest call that was taken
 pub record OpenRun : Type 0 where
   pub month : MonthRun
   pub rows : List DayRow
@@ -51,7 +51,7 @@ pub record History : Type 0 where
 abbrev pub no_history : (Pool → ℕ) → History
 no_history opening = record { opening = opening; past = []; current = None }
 
--- the call got roster and day table as the last taken one left them
+-- a call was handed the open month's roster, and the day table as it stood after the latest taken call
 abbrev pub Handed : Option OpenRun → List RosterEntry → List DayRow → Type 0
 Handed None roster rows = ⊥
 Handed (Some o) roster rows = (roster ≡ o.month.roster) × (rows ≡ o.rows)
@@ -98,8 +98,8 @@ abbrev pub HandedIfTaken : {A : Type 0} → Option OpenRun → List RosterEntry 
 HandedIfTaken o roster rows (Ok a) = Handed o roster rows
 HandedIfTaken o roster rows (Err e) = Unit {0}
 
--- A run over a book of this meaning and under these rules: from a start, by open, record, close and release in any order,
--- taken or refused. Lookups change nothing, so they leave no trace.
+-- A run over a book of this meaning and under these rules: a start, then the other four calls in whatever order and number,
+-- taken or refused. A lookup changes nothing, so a run does not name it.
 pub data Run {S : Type 0} (m : FundMeaning S) (sound : S → Type 0) (r : Rules) : History → View S → Type 0 where
   starts : (s : S) → sound s → Run m sound r (no_history (m.binding s)) (started m s)
   opens : {h : History} {v w : View S} (t : MonthTerms) (roster : List RosterEntry) (rows rows' : List DayRow) (a : Result (Unit {0}) SettlementFault)

@@ -31,6 +31,6 @@ pub record View (S : Type 0) : Type 0 where
 abbrev pub view : {S B G F : Type 0} → (B → S) → Settlement B G F → View S
 view state s = record { opening = s.opening; phase = phase_of s.stage; book = state s.book }
 
--- after December's close a release is due
+-- the phase once a month is closed: a December's release comes first
 abbrev pub phase_closed : MonthDate → Phase
 phase_closed d = cond (d.month == 12) (release_due d) (closed d)

@@ -1,22 +1,29 @@
-// What lines and load entries tell of an amount. The amount is selected by an enum: one total runs over whatever tells one.
+//! The amounts that lines and load entries tell, and that a total is taken of.
 ghost use Rattle.settlement.specs.Closing.{line_tells};
 ghost use Rattle.settlement.specs.Releasing.{load_tells};
 
 use crate::tables::{LineEntry, LoadEntry};
-use assessment::line::LineState;
-use fund::total::TellsAmount;
-use pools::pool::Pool;
+use assessment::LineState;
+use fund::TellsAmount;
+use pools::Pool;
 
+/// What can be totalled over entries of the line table.
 #[derive(Clone, Copy, PartialEq, Eq, Debug)]
 pub enum LineAmount {
+    /// The cents of charged lines.
     Charges,
+    /// The cents of lines in the state paid.
     Payments,
+    /// The quantity, in W, of lines in the state paid, which are the eligible ones.
     EligibleQuantity,
 }
 
+/// What can be totalled over load entries.
 #[derive(Clone, Copy, PartialEq, Eq, Debug)]
 pub enum LoadAmount {
+    /// The load, in GWh.
     Load,
+    /// The share of this pool's fund, in cents.
     Share(Pool),
 }
 

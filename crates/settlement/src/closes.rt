@@ -1,4 +1,4 @@
-// Closing a month: an assessing part, a paying part, and the postings.
+//! Closing a month: an assessing part, a paying part, and the postings.
 ghost use Rattle.std.specs.Prelude.{◌≡◌, ◌*◌, length, OnErr};
 ghost use Rattle.settlement.specs.Closing.{LinesClose, Closes};
 ghost use Rattle.settlement.specs.Runs.{CloseGoesOn};
@@ -13,15 +13,12 @@ use crate::settlement::Settlement;
 use crate::stage::Stage;
 use crate::tables::{LineEntry, PoolClose, RosterEntry};
 use crate::workings::MonthTables;
-use assessment::day_result::DayRow;
-use assessment::month_date::{DECEMBER, MonthDate};
-use assessment::rule::AvailabilityRule;
-use fund::book::FundBook;
-use pools::per_pool::PerPool;
-use pools::pool::Pool;
+use assessment::{AvailabilityRule, DECEMBER, DayRow, MonthDate};
+use fund::FundBook;
+use pools::{PerPool, Pool};
 
 impl Stage {
-    // After a December a release is due.
+    /// After a December a release is due.
     fn after_close(month: MonthDate) -> Stage
         ensures { phase_of result ≡ phase_closed month }
     {
@@ -34,7 +31,7 @@ impl Stage {
 }
 
 impl<B: FundBook, G: AvailabilityRule, F: AvailabilityRule> Settlement<B, G, F> {
-    // Works out and closes both pools, and writes the line table only when both funds are within the limit.
+    /// Works out and closes both pools, and writes the line table only when both funds are within the limit.
     fn close_lines(
         &self,
         tables: &MonthTables<'_>,
@@ -45,7 +42,7 @@ impl<B: FundBook, G: AvailabilityRule, F: AvailabilityRule> Settlement<B, G, F> 
     {
         let price = tables.month.price;
         let mut entries = tables.work_out(&self.rules);
-        // Not `PerPool::of`: each writes its entries, and a fault of the first must stop the second.
+        // Each pool's close writes its entries, and a fault of the first pool must stop the second.
         let pools = PerPool {
             generic: close_pool(&self.book, Pool::Generic, price, &mut entries.generic)?,
             flexible: close_pool(&self.book, Pool::Flexible, price, &mut entries.flexible)?,
@@ -54,7 +51,9 @@ impl<B: FundBook, G: AvailabilityRule, F: AvailabilityRule> Settlement<B, G, F> 
         Ok(pools)
     }
 
-    // Closes the month: writes its lines, posts each pool's charges and payments, and answers them with the rates.
+    /// Closes the month: writes its lines, posts each pool's charges and payments, and answers them with the rates. Refused,
+    /// whichever comes first: `UnfitTables` for tables or rows outside their limits, `OutOfTurn` where no month is open, and
+    /// `OverLimit` of a pool whose balance and charges together pass the book's limit, the generic pool first.
     pub fn close(
         &mut self,
         roster: &[RosterEntry],
@@ -69,7 +68,6 @@ impl<B: FundBook, G: AvailabilityRule, F: AvailabilityRule> Settlement<B, G, F> 
         if !all_fit(roster, rows, lines) {
             return Err(SettlementFault::UnfitTables);
         }
-        // As in `record`.
         let Stage::Open(month) = self.stage else {
             return Err(SettlementFault::OutOfTurn);
         };

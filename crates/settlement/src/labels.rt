@@ -1,14 +1,16 @@
-// The number, layer and place by which a fault is told.
+//! The number, layer and place by which a fault is told.
 ghost use Rattle.std.specs.Prelude.{◌≡◌};
 ghost use Rattle.settlement.specs.Faults.{label};
 
 use crate::fault::{FaultPlace, SettlementFault};
-use fund::label::Label;
+use fund::Label;
 
+/// The letter of the settlement's own layer.
 const LAYER: char = 'S';
 
 impl SettlementFault {
-    // A book's fault keeps its own number, layer and pool.
+    /// The label of a fault: its number, 10 to 20 but never 14, the letter S, and as its place the resource's day of a fault of
+    /// `record`. A book's fault keeps its own number, letter and pool.
     pub fn label(self) -> Label<Option<FaultPlace>>
         ensures { result ≡ label self }
     {

@@ -1,4 +1,4 @@
-// What is looked up in a settlement. A lookup changes nothing.
+//! What is looked up in a settlement. A lookup changes nothing.
 ghost use Rattle.std.specs.Prelude.{◌≡◌};
 ghost use Rattle.pools.specs.PerPool.{entry_of};
 ghost use Rattle.settlement.specs.Accounts.{AccountantsLaw};
@@ -7,21 +7,21 @@ ghost use Rattle.settlement.specs.Views.{view};
 
 use crate::settlement::Settlement;
 use crate::stage::Stage;
-use assessment::rule::AvailabilityRule;
-use fund::book::FundBook;
-use fund::every_book::{Account, account_of};
-use fund::standing::Standing;
-use pools::pool::Pool;
+use assessment::AvailabilityRule;
+use fund::{Account, FundBook, Standing, account_of};
+use pools::Pool;
 
-// A pool's balances, in cents: what it held when the settlement was started, and what the book holds and shows now.
+/// A pool's balances, in cents: what it held when the settlement was started, and what the book holds and shows now.
 #[derive(Clone, Copy, PartialEq, Eq, Debug)]
 pub struct PoolAccount {
+    /// The binding balance when the settlement was started, in cents, 0 to 7,000,000,000,000.
     pub opening: u64,
+    /// What the book holds and shows now, in cents.
     pub balances: Account,
 }
 
 impl<B: FundBook, G: AvailabilityRule, F: AvailabilityRule> Settlement<B, G, F> {
-    // The balances of a pool; and what the accountant can show of every run that ends here.
+    /// The balances of a pool; and what the accountant can show of every run that ends here.
     pub fn account(&self, pool: Pool) -> PoolAccount
         ensures opening { result.opening ≡ entry_of self.now.opening pool }
         ensures binding { result.balances.binding ≡ B.means.binding (B.state self.now.book) pool }
@@ -34,19 +34,21 @@ impl<B: FundBook, G: AvailabilityRule, F: AvailabilityRule> Settlement<B, G, F> 
         }
     }
 
+    /// The standing of the book: binding at first and after a release, else that of the month opened last.
     pub fn standing(&self) -> Standing
         ensures { result ≡ B.means.standing (B.state self.now.book) }
     {
         self.book.standing()
     }
 
+    /// How many places for postings are free in the book.
     pub fn free_places(&self) -> usize
         ensures { result ≡ B.means.free (B.state self.now.book) }
     {
         self.book.free_places()
     }
 
-    // What is open, and what is due.
+    /// What is open, and what is due.
     pub fn stage(&self) -> Stage
         ensures { result ≡ self.now.stage }
     {

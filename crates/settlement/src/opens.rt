@@ -1,4 +1,4 @@
-// Starting a settlement, and opening a month.
+//! Starting a settlement, and opening a month.
 ghost use Rattle.std.specs.Prelude.{◌≡◌, MatchBool, MatchOption, OnErr};
 ghost use Rattle.settlement.specs.Opening.{started, MayOpen, Follows, TermsWithin, standing_of, Opens};
 ghost use Rattle.settlement.specs.Runs.{Run, no_history, OpenGoesOn};
@@ -11,17 +11,12 @@ use crate::price::Price;
 use crate::settlement::Settlement;
 use crate::stage::{OpenMonth, Stage};
 use crate::tables::{MonthTerms, RosterEntry};
-use assessment::day_result::DayRow;
-use assessment::month_date::MonthDate;
-use assessment::rule::AvailabilityRule;
-use assessment::rule_pair::RulePair;
-use assessment::settings::MonthSettings;
-use assessment::trade_month::TradeMonth;
-use fund::book::FundBook;
-use fund::standing::Standing;
-use pools::per_pool::PerPool;
+use assessment::{AvailabilityRule, DayRow, MonthDate, MonthSettings, RulePair, TradeMonth};
+use fund::{FundBook, Standing};
+use pools::PerPool;
 
 impl Stage {
+    /// Whether any month may be opened now: none is open, and no release is due.
     fn may_open(&self) -> bool
         ensures { MatchBool result (MayOpen (phase_of self.now)) (MayOpen (phase_of self.now) → ⊥) }
     {
@@ -31,7 +26,7 @@ impl Stage {
         }
     }
 
-    // Whether the month is the one that may be opened now.
+    /// Whether the month is the one that may be opened now.
     fn admits(&self, month: &TradeMonth) -> bool
         ensures { MatchBool result (Follows (phase_of self.now) month.now) (Follows (phase_of self.now) month.now → ⊥) }
     {
@@ -43,14 +38,14 @@ impl Stage {
     }
 }
 
-// What a month is opened with, within its limits.
+/// What a month is opened with, within its limits.
 #[derive(Clone, Copy, PartialEq, Eq, Debug)]
 struct FitTerms {
     month: OpenMonth,
     standing: Standing,
 }
 
-// An Option and no TryFrom, since whatever is outside its limits is one fault, which `open` names as it does its others.
+/// The terms as values within their limits; None where one of them is outside.
 fn fit_terms(terms: &MonthTerms) -> Option<FitTerms>
     ensures { MatchOption result (TermsWithin terms.now → ⊥) (λ o. TermsWithin terms.now × (o.month.settings.month ≡ terms.now.month) × (o.month.price.cents ≡ terms.now.price) × (o.standing ≡ standing_of terms.now.standing)) }
 {
@@ -64,7 +59,8 @@ fn fit_terms(terms: &MonthTerms) -> Option<FitTerms>
 }
 
 impl<B: FundBook, G: AvailabilityRule, F: AvailabilityRule> Settlement<B, G, F> {
-    // A settlement over the book, which it stands binding, and the two rules.
+    /// A settlement over the book and by the two rules; no month is open. It stands the book binding, and keeps what each pool
+    /// then holds as its opening balance. Nothing is refused.
     pub fn start(mut book: B, rules: RulePair<G, F>) -> Settlement<B, G, F>
         ensures is { view B.state result ≡ started B.means (B.state book) }
         ensures rules { result.rules ≡ rules }
@@ -80,8 +76,10 @@ impl<B: FundBook, G: AvailabilityRule, F: AvailabilityRule> Settlement<B, G, F> 
         }
     }
 
-    // Opens a month: empties the day table, and sets the book's standing. The caller owns roster and rows, and hands them in with
-    // each call (docs/settlement.md). Each call says for itself that a refusal changes nothing (`same`) and that the rules stay.
+    /// Opens a month: every place of the day table is empty afterwards, and the book stands as the terms say. Roster and day
+    /// table belong to the caller, who hands them in with each call (docs/settlement.md). Refused, whichever comes first:
+    /// `UnfitTables`; `OutOfTurn` where another month is open, or a release comes first; `UnfitTerms`; `NotNextMonth`; and
+    /// `NoAdvisoryMonths` of the book.
     pub fn open(
         &mut self,
         terms: &MonthTerms,

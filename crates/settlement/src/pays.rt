@@ -1,4 +1,4 @@
-// The paying part of a close: one rate for each pool, and each eligible line's payment at it.
+//! The paying part of a close: one rate for each pool, and each eligible line's payment at it.
 ghost use Rattle.std.specs.Prelude.{◌≡◌, ℕ, ◌+◌, ◌*◌, ◌<◌, ◌≤◌, map, length, slice_index, slice_index_or};
 ghost use Rattle.arrayvec.specs.ArrayVec.{array_vec_len};
 ghost use Rattle.fund.specs.Balances.{limit};
@@ -12,14 +12,13 @@ use crate::checks::MOST_RESOURCES;
 use crate::price::{Price, Rate, WATTS_IN_A_MEGAWATT};
 use crate::tables::{LINES, LineEntry, PoolClose, pool_at};
 use arrayvec::ArrayVec;
-use assessment::line::LineState;
-use fund::book::{FundBook, LIMIT};
-use fund::fault::BookFault;
-use fund::total::{TellsAmount, total};
-use pools::per_pool::PerPool;
-use pools::pool::Pool;
+use assessment::LineState;
+use fund::total::total;
+use fund::{BookFault, FundBook, LIMIT, TellsAmount};
+use pools::{PerPool, Pool};
 
-// The rate that eligible lines are paid, in cents for a megawatt and month.
+/// The rate that eligible lines are paid, in cents for a megawatt and month, from the price, the fund in cents and the eligible
+/// quantity in W: 0 to three times the price.
 pub(crate) fn rate_for(price: Price, fund: u64, quantity: u128) -> Rate
     requires { fund ≤ limit }
     ensures { result.cents ≡ rate_of price.cents fund quantity }
@@ -29,14 +28,14 @@ pub(crate) fn rate_for(price: Price, fund: u64, quantity: u128) -> Rate
     }
     let triple = 3 * u128::from(price.cents);
     let all_of_it = u128::from(fund) * u128::from(WATTS_IN_A_MEGAWATT) / quantity;
-    // The cast loses nothing, since a rate is triple the price at most: a TryFrom would have nothing to refuse.
+    // The cast loses nothing, since a rate is triple the price at most.
     Rate {
         cents: triple.min(all_of_it) as u64,
     }
 }
 
-// The eligible quantity of each line, 0 where it is not eligible, in a table of its own (docs/DECISIONS.md, Forms of code).
-// Filled by place for the reason given beside `pay`.
+/// The eligible quantity of each line in W, 0 where it is not eligible, in a table of its own (docs/DECISIONS.md, Forms of
+/// code). Filled by place for the reason given beside `pay`.
 fn eligible_quantities(entries: &ArrayVec<LineEntry, MOST_RESOURCES>) -> [u64; MOST_RESOURCES]
     ensures eligible { (k : ℕ) → k < array_vec_len entries.now → slice_index result k ≡ line_tells EligibleQuantity (slice_index_or entries.now.items k no_line) }
     ensures others { (k : ℕ) → array_vec_len entries.now ≤ k → slice_index result k ≡ 0 }
@@ -48,8 +47,8 @@ fn eligible_quantities(entries: &ArrayVec<LineEntry, MOST_RESOURCES>) -> [u64; M
     quantities
 }
 
-// Pays every eligible line at the rate, from a table of the eligible quantities. The place is counted, since of lines
-// written through a zip with that table nothing would be known.
+/// Pays every eligible line at the rate, from a table of the eligible quantities. The place is counted: of lines written
+/// through a zip with that table nothing is known.
 fn pay(entries: &mut ArrayVec<LineEntry, MOST_RESOURCES>, rate: Rate)
     requires { QuantitiesWithin entries.old.items }
     ensures { entries.new.items ≡ map (paid_entry rate.cents) entries.old.items }
@@ -63,8 +62,8 @@ fn pay(entries: &mut ArrayVec<LineEntry, MOST_RESOURCES>, rate: Rate)
     }
 }
 
-// A pool's close, by the price of its charges and what the book shows: its fund within the limit, or the fault; then its rate
-// and its payments.
+/// A pool's close, by the price of its charges and what the book shows: its charges, rate and payments in cents, the payments
+/// also written to the lines. Refused with `OverLimit` of the pool where what is shown and the charges together pass the limit.
 pub(crate) fn close_pool<B: FundBook>(
     book: &B,
     pool: Pool,
@@ -79,8 +78,7 @@ pub(crate) fn close_pool<B: FundBook>(
     if charges > u128::from(LIMIT - shown) {
         return Err(BookFault::OverLimit(pool));
     }
-    // Neither cast loses anything: the fund is within the limit, and the payments are within the fund. A TryFrom would have
-    // nothing to refuse.
+    // Neither cast loses anything: the fund is within the limit, and the payments are within the fund.
     let charges = charges as u64;
     let quantity = total(entries, LineAmount::EligibleQuantity);
     let rate = rate_for(price, shown + charges, quantity);
@@ -93,7 +91,8 @@ pub(crate) fn close_pool<B: FundBook>(
     })
 }
 
-// Two entries a resource, generic first. The place is counted, since it tells the pool and the resource.
+/// Writes the line table: two entries a resource, generic first. The place is counted, since it tells the pool and the
+/// resource.
 pub(crate) fn write_table(
     lines: &mut [LineEntry],
     entries: &PerPool<ArrayVec<LineEntry, MOST_RESOURCES>>,
@@ -102,7 +101,6 @@ pub(crate) fn write_table(
     ensures { lines.new ≡ line_table entries.now.generic.items entries.now.flexible.items (array_vec_len entries.now.generic) }
 {
     for (place, entry) in lines.iter_mut().enumerate() {
-        // By name, since `get` copies an entry, and a table of lines is no Copy.
         *entry = match pool_at(place) {
             Pool::Generic => entries.generic[place / LINES],
             Pool::Flexible => entries.flexible[place / LINES],

@@ -1,4 +1,4 @@
-// The postings of a close and of a release. Their tests have passed, so no book refuses them, and each is unwrapped.
+//! The postings of a close and of a release. Their tests have passed, so no book refuses them, and each is unwrapped.
 ghost use Rattle.std.specs.Prelude.{◌≡◌, ◌+◌, ◌<◌, ◌≤◌};
 ghost use Rattle.fund.specs.Balances.{limit};
 ghost use Rattle.pools.specs.PerPool.{entry_of};
@@ -9,19 +9,17 @@ ghost use Rattle.settlement.specs.Closing.{posted_in, posted_out, posted, month_
 
 use crate::amounts::LoadAmount;
 use crate::tables::{LoadEntry, PoolClose};
-use fund::book::FundBook;
-use fund::every_book::make_room;
 use fund::total::total;
-use pools::per_pool::PerPool;
-use pools::pool::Pool;
+use fund::{FundBook, make_room};
+use pools::{PerPool, Pool};
 
-// The most postings that a close makes: charges in and payments out, in each pool.
+/// The most postings that a close makes: charges in and payments out, in each pool.
 const CLOSE_POSTINGS: usize = 4;
 
-// The most that a release makes: one out of each pool.
+/// The most that a release makes: one out of each pool.
 const RELEASE_POSTINGS: usize = 2;
 
-// Zero is not posted. The two differ in the call of the book that they make, which has no direction as a parameter.
+/// Posts an amount in cents into the pool; zero is not posted.
 fn post_in<B: FundBook>(book: &mut B, pool: Pool, amount: u64)
     requires place { 0 < B.means.free (B.state book.old) }
     requires room { B.means.shown (B.state book.old) pool + amount ≤ limit }
@@ -32,6 +30,7 @@ fn post_in<B: FundBook>(book: &mut B, pool: Pool, amount: u64)
     }
 }
 
+/// Posts an amount in cents out of the pool; zero is not posted.
 fn post_out<B: FundBook>(book: &mut B, pool: Pool, amount: u64)
     requires place { 0 < B.means.free (B.state book.old) }
     requires covered { amount ≤ B.means.shown (B.state book.old) pool }
@@ -51,7 +50,7 @@ fn post_pool<B: FundBook>(book: &mut B, pool: Pool, close: PoolClose)
     post_out(book, pool, close.payments);
 }
 
-// Makes room for four postings, then posts each pool's charges and payments, generic first.
+/// Makes room for four postings, then posts each pool's charges and payments, generic first.
 pub(crate) fn post_month<B: FundBook>(book: &mut B, pools: PerPool<PoolClose>)
     requires { (p : Pool) → Funded B.means (B.state book.old) p (entry_of pools p) }
     ensures { B.state book.new ≡ month_posted B.means (B.state book.old) pools }
@@ -62,14 +61,14 @@ pub(crate) fn post_month<B: FundBook>(book: &mut B, pools: PerPool<PoolClose>)
     }
 }
 
-// Makes room for two postings, then posts out what is released of each pool, generic first.
+/// Makes room for two postings, then posts out what is released of each pool, generic first.
 pub(crate) fn post_release<B: FundBook>(book: &mut B, loads: &[LoadEntry])
     requires { (p : Pool) → load_told (Share p) loads.now ≤ B.means.shown (B.state book.old) p }
     ensures { B.state book.new ≡ shares_posted B.means (B.state book.old) loads.now }
 {
     make_room(book, RELEASE_POSTINGS);
     for pool in Pool::ALL {
-        // The cast loses nothing, since no more is shared out than the pool shows: a TryFrom would have nothing to refuse.
+        // The cast loses nothing, since no more is shared out than the pool shows.
         post_out(book, pool, total(loads, LoadAmount::Share(pool)) as u64);
     }
 }

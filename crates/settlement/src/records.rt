@@ -1,4 +1,4 @@
-// Recording a resource's day.
+//! Recording a resource's day.
 ghost use Rattle.std.specs.Prelude.{◌≡◌};
 ghost use Rattle.settlement.specs.Recording.{fault_for, Records};
 ghost use Rattle.settlement.specs.Runs.{RecordGoesOn};
@@ -10,13 +10,10 @@ use crate::fault::{ResourceDay, SettlementFault};
 use crate::settlement::Settlement;
 use crate::stage::Stage;
 use crate::tables::{RosterEntry, SubmittedDay};
-use assessment::day_record::DayRecord;
-use assessment::day_result::{DAY_PLACES, DayFigures, DayRow};
-use assessment::rule::AvailabilityRule;
-use assessment::submission::DayBreach;
-use fund::book::FundBook;
+use assessment::{AvailabilityRule, DAY_PLACES, DayBreach, DayFigures, DayRecord, DayRow};
+use fund::FundBook;
 
-// No From, since a breach alone does not know its day.
+/// The fault that tells a breach of the day's limits.
 fn breach_fault(breach: DayBreach, at: ResourceDay) -> SettlementFault
     ensures { result ≡ fault_for breach at }
 {
@@ -29,7 +26,9 @@ fn breach_fault(breach: DayBreach, at: ResourceDay) -> SettlementFault
 }
 
 impl<B: FundBook, G: AvailabilityRule, F: AvailabilityRule> Settlement<B, G, F> {
-    // Assesses the day by the two rules, and stores its result in the day table.
+    /// Assesses the day by the two rules, writes its figures to the day's place of the day table, and answers them. Refused,
+    /// whichever comes first: `UnfitTables`; `OutOfTurn` where no month is open; and of the day `UnknownResource`, `NoSuchDay`,
+    /// `AlreadyRecorded`, `DayOverLimit` and `FlexibleInCategory0`.
     pub fn record(
         &self,
         roster: &[RosterEntry],
@@ -42,12 +41,10 @@ impl<B: FundBook, G: AvailabilityRule, F: AvailabilityRule> Settlement<B, G, F> 
         if !days_fit(roster, rows) {
             return Err(SettlementFault::UnfitTables);
         }
-        // No `?`, here and in `close`: a stage is no Result, and a method for the two, with its contract, would be longer than both.
         let Stage::Open(month) = self.stage else {
             return Err(SettlementFault::OutOfTurn);
         };
-        // By place, since the table is flat: one of any length can be handed in, also of no multiple of 31, and is refused (10).
-        // Any u32 fits a usize, but there is no From between them.
+        // The casts here lose nothing: any u32 fits a usize.
         let resource = day.at.resource as usize;
         let entry = roster
             .get(resource)

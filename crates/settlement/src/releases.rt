@@ -1,4 +1,4 @@
-// Releasing the fund to the loads after a December.
+//! Releasing the fund to the loads after a December.
 ghost use Rattle.std.specs.Prelude.{◌≡◌, ◌*◌, ◌<◌, ◌≤◌, map, MatchBool, MatchOption, OnErr};
 ghost use Rattle.fund.specs.Balances.{limit};
 ghost use Rattle.pools.specs.PerPool.{entry_of};
@@ -15,15 +15,15 @@ use crate::postings::post_release;
 use crate::settlement::Settlement;
 use crate::stage::Stage;
 use crate::tables::LoadEntry;
-use assessment::rule::AvailabilityRule;
-use fund::book::FundBook;
-use fund::standing::Standing;
+use assessment::AvailabilityRule;
 use fund::total::total;
-use pools::per_pool::PerPool;
-use pools::pool::Pool;
+use fund::{FundBook, Standing};
+use pools::{PerPool, Pool};
 
+/// The most load entries that a release takes.
 const MOST_LOADS: usize = 64;
 
+/// The largest load that an entry may have.
 const MOST_GIGAWATT_HOURS: u64 = 1_000_000;
 
 fn each_load_within(loads: &[LoadEntry]) -> bool
@@ -32,7 +32,7 @@ fn each_load_within(loads: &[LoadEntry]) -> bool
     loads.iter().all(|entry| entry.load <= MOST_GIGAWATT_HOURS)
 }
 
-// The total load of entries within their limits; None where a limit is broken.
+/// The total load in GWh, above 0, of entries within their limits; None where a limit is broken.
 fn total_load(loads: &[LoadEntry]) -> Option<u128>
     ensures { MatchOption result (LoadsWithin loads.now → ⊥) (λ t. LoadsWithin loads.now × (t ≡ load_told Load loads.now)) }
 {
@@ -45,7 +45,7 @@ fn total_load(loads: &[LoadEntry]) -> Option<u128>
     }
 }
 
-// What is released: both balances, shared out over a total load.
+/// What is released: both balances, in cents, shared out over a total load.
 #[derive(Clone, Copy, PartialEq, Eq, Debug)]
 struct Release {
     balances: PerPool<u64>,
@@ -55,9 +55,8 @@ struct Release {
 }
 
 impl Release {
-    // A load's part of a pool's balance, in whole cents, divided in 128 bits since a total has so many. The cast loses nothing, as
-    // the product fits too, and a TryFrom would have nothing to refuse. The load's limit is a clause here and below, and no type:
-    // an entry is written back as it was handed in, with its shares, so a checked load would be taken apart again.
+    /// A load's part of a pool's balance, in whole cents, divided in 128 bits since a total has so many. The cast loses
+    /// nothing, as the product fits 64 bits too: a balance is within the limit, and a load at most 1,000,000 GWh.
     fn share(&self, pool: Pool, load: u64) -> u64
         requires { load ≤ 1000000 }
         ensures { result ≡ share_of (entry_of self.now.balances pool) self.now.load load }
@@ -65,6 +64,7 @@ impl Release {
         (u128::from(self.balances.get(pool) * load) / self.load) as u64
     }
 
+    /// The entry with its share of each pool's balance.
     fn with_shares(&self, entry: LoadEntry) -> LoadEntry
         requires { entry.load ≤ 1000000 }
         ensures { result ≡ shared self.now.balances.generic self.now.balances.flexible self.now.load entry }
@@ -75,7 +75,7 @@ impl Release {
         }
     }
 
-    // Writes each entry's share of both balances, entry by entry with its index (docs/DECISIONS.md, Forms of code).
+    /// Writes each entry's share of both balances, entry by entry with its index (docs/DECISIONS.md, Forms of code).
     fn share_out(&self, loads: &mut [LoadEntry])
         requires { EachLoadWithin loads.old }
         ensures { loads.new ≡ map (shared self.now.balances.generic self.now.balances.flexible self.now.load) loads.old }
@@ -87,14 +87,15 @@ impl Release {
 }
 
 impl<B: FundBook, G: AvailabilityRule, F: AvailabilityRule> Settlement<B, G, F> {
-    // Gives each load its share of both binding balances; the remainder stays in the fund.
+    /// Gives each load its share of both binding balances, and posts the shares out; what rounding leaves stays in the fund.
+    /// The book is stood binding first, so that the postings of an advisory December do not count. Refused: `OutOfTurn` where
+    /// no release is due, else `UnfitLoads` for load entries outside their limits.
     pub fn release(&mut self, loads: &mut [LoadEntry]) -> Result<(), SettlementFault>
         ensures does { Releases B.means (view B.state self.old) loads.old result (view B.state self.new) loads.new }
         ensures same { OnErr result (self.new ≡ self.old) }
         ensures rules { self.new.rules ≡ self.old.rules }
         ensures runs { ReleaseGoesOn B.means B.sound (rules_of G.means F.means self.old.rules) (view B.state self.old) result (rules_of G.means F.means self.new.rules) (view B.state self.new) loads.new }
     {
-        // No `?`: a stage is no Result, and a method for this one place would be longer.
         let Stage::ReleaseDue(december) = self.stage else {
             return Err(SettlementFault::OutOfTurn);
         };

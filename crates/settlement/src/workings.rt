@@ -1,4 +1,4 @@
-// A month's lines, worked out before anything is written to the caller's table.
+//! A month's lines, worked out before anything is written to the caller's table.
 ghost use Rattle.std.specs.Prelude.{◌≡◌, ◌≤◌, length};
 ghost use Rattle.arrayvec.specs.ArrayVec.{array_vec_len};
 ghost use Rattle.assessment.specs.Pairs.{rules_of};
@@ -12,13 +12,10 @@ use crate::price::{Price, Rate};
 use crate::stage::OpenMonth;
 use crate::tables::{LineEntry, RosterEntry};
 use arrayvec::ArrayVec;
-use assessment::day_result::{DAY_PLACES, DayRow};
-use assessment::line::{Line, LineState};
-use assessment::rule::AvailabilityRule;
-use assessment::rule_pair::RulePair;
-use pools::per_pool::PerPool;
-use pools::pool::Pool;
+use assessment::{AvailabilityRule, DAY_PLACES, DayRow, Line, LineState, RulePair};
+use pools::{PerPool, Pool};
 
+/// The line with its cents: those at the price if it is charged, else 0.
 fn charged(price: Price, line: Line) -> LineEntry
     requires { line.quantity ≤ 58590000000 }
     ensures { result ≡ charged_entry price.cents line }
@@ -30,18 +27,21 @@ fn charged(price: Price, line: Line) -> LineEntry
     LineEntry { line, cents }
 }
 
-// What a month's lines are worked out from: tables that fit, so that every resource has lines.
+/// What a month's lines are worked out from: tables that fit, so that every resource has lines.
 #[derive(Clone, Copy, PartialEq, Eq, Debug)]
 pub(crate) struct MonthTables<'a> {
+    /// The month that is closed.
     pub month: &'a OpenMonth,
+    /// Its resources, 512 at most, each of a category from 0 to 3.
     pub roster: &'a [RosterEntry],
+    /// The day table, 31 rows a resource, each of which can be a day result.
     pub rows: &'a [DayRow],
     ghost fit: { DaysFit roster.now rows.now },
     ghost within: { EachRowWithin rows.now },
 }
 
 impl MonthTables<'_> {
-    // Each pool's lines, charged lines with their cents and eligible ones at 0.
+    /// Each pool's lines, resource by resource, charged lines with their cents and eligible ones at 0.
     pub(crate) fn work_out<G: AvailabilityRule, F: AvailabilityRule>(
         &self,
         rules: &RulePair<G, F>,

@@ -164,7 +164,7 @@ module _ (t : MonthTerms) (roster : List RosterEntry) (rows : List DayRow) where
     shown = record { generic = pool_book.shown closed_book Generic; flexible = pool_book.shown closed_book Flexible };
   }
 
-  -- a close is refused where a fund would pass the limit, generic first
+  -- the close: refused if one of the two funds is above the limit, and the generic one is looked at before the flexible one
   unfoldable pub closed_month : Result MonthStatement SettlementFault
   closed_month =
       require (nat_le (fund_in Generic) limit) (Book (OverLimit Generic))
@@ -183,7 +183,7 @@ opens t = require (terms_within t) UnfitTerms (Ok tt)
 abbrev pub no_days : List RosterEntry → List DayRow
 no_days roster = replicate (31 * length roster) None
 
--- The month is opened once the first day has passed the reader, or at the file's end; then come the days, and the close.
+-- The month is opened as soon as a first day has been read, or after the last record if there is no day; then come the days, and the close.
 -- A fault of open is told at the month record, one of the close at the end of the records, which is the file's length.
 unfoldable pub settled_from : MonthTerms → RosterPart → Result MonthStatement (Located StatementFault)
 settled_from t part =

@@ -1,19 +1,23 @@
-// What a statement tells of its month.
+//! What a statement tells of its month.
 ghost use Rattle.std.specs.Prelude.{◌≡◌};
 ghost use Rattle.settlement.specs.Opening.{standing_of};
 
-use fund::standing::Standing;
-use pools::per_pool::PerPool;
-use settlement::tables::{LineEntry, MonthTerms, PoolClose};
+use fund::Standing;
+use pools::PerPool;
+use settlement::{LineEntry, MonthTerms, PoolClose};
 
-// A closed month: its settings and standing, two lines a resource, what each pool comes to, and the balance that it then shows.
+/// A closed month: its settings and standing, two lines a resource, what each pool comes to, and the balance that it then shows.
 #[derive(PartialEq, Eq, Debug, Drop)]
 pub(crate) struct ClosedMonth {
+    /// What it was opened with.
     pub terms: MonthTerms,
-    // The terms tell it by a number, as handed in.
+    /// Its standing, which the terms tell by a number.
     pub standing: Standing,
+    /// Two a resource, generic first, the empty ones too: obligation and availability in watts, state, and cents.
     pub lines: Vec<LineEntry>,
+    /// Charges and payments in cents, the rate in cents per megawatt and month.
     pub pools: PerPool<PoolClose>,
+    /// The balance that each pool shows after the close, in cents.
     pub shown: PerPool<u64>,
     ghost stands: { standing ≡ standing_of terms.standing },
 }

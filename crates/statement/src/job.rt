@@ -1,4 +1,4 @@
-// The whole job: from the bytes of a month file to the bytes of its statement.
+//! The whole job: from the bytes of a month file to the bytes of its statement.
 ghost use Rattle.std.specs.Prelude.{◌≡◌, true, ◌++◌, IfOk, IfErr, OnOk};
 ghost use Rattle.statement.specs.Laws.{PrintsClose, StatementsKeepTheLaw, RefusedInOneLine, RecordsDecide, DaysInAnyOrder};
 ghost use Rattle.statement.specs.Months.{closed_of};
@@ -10,12 +10,12 @@ use crate::line::PrintedLine;
 use crate::month::settle_month;
 use crate::no_statement::NoStatement;
 use crate::rows::{header_row, line_row, pool_row};
-use assessment::line::LineState;
-use pools::pool::Pool;
-use settlement::tables::{LINES, LineEntry, pool_at};
+use assessment::LineState;
+use pools::Pool;
+use settlement::{LINES, LineEntry, pool_at};
 use std::alloc::{AllocError, Global};
 
-// The line of a place of the line table; an empty one is not printed.
+/// The line of a place of the line table; an empty one is not printed.
 fn place_row(place: usize, entry: &LineEntry) -> PrintedLine
     ensures { result ≡ place_row place entry.now }
 {
@@ -32,7 +32,6 @@ fn place_row(place: usize, entry: &LineEntry) -> PrintedLine
 fn put_lines(out: &mut Vec<u8>, lines: &[LineEntry]) -> Result<(), AllocError>
     ensures { OnOk result (out.new.items ≡ out.old.items ++ line_rows lines.now) }
 {
-    // The place is data: it tells the line's resource and pool.
     for (place, entry) in lines.iter().enumerate() {
         out.extend_from_slice(place_row(place, entry).written())?;
     }
@@ -45,13 +44,12 @@ fn print_month(heap: Global, month: &ClosedMonth) -> Result<Vec<u8>, AllocError>
     let mut out = Vec::new(heap);
     out.extend_from_slice(header_row(month).written())?;
     put_lines(&mut out, &month.lines)?;
-    // Two lines and no loop over Pool::ALL, which is longer and needs an invariant.
     out.extend_from_slice(pool_row(month, Pool::Generic).written())?;
     out.extend_from_slice(pool_row(month, Pool::Flexible).written())?;
     Ok(out)
 }
 
-// The statement of a month file. Memory is taken from `heap`, which is an argument of its own, as in the library.
+/// The statement of a month file, as bytes; else the refusal of its first fault, or the want of memory, which is taken from `heap`.
 #[tactic(auto, using(crate::proofs::Outputs::laws, crate::proofs::Outputs::refused_by, crate::proofs::Outputs::settled_begun), unfolding(crate::specs::Printing::output, crate::specs::Printing::is_settled))]
 pub fn settle_file(heap: Global, file: &[u8]) -> Result<Vec<u8>, NoStatement>
     ensures settled { IfOk result (λ v. (is_settled file.now ≡ true) × (v.items ≡ output file.now)) }

@@ -1,15 +1,15 @@
-// The number, layer and offset by which a refusal is printed.
+//! The number, layer and offset by which a refusal is printed.
 ghost use Rattle.std.specs.Prelude.{◌≡◌};
 ghost use Rattle.statement.specs.Faults.{label};
 
 use crate::fault::{Located, ReaderFault, StatementFault};
-use fund::label::Label;
+use fund::Label;
 
-// Each layer names its own letter, so that no layer below knows of this one.
+/// The letter of this layer. Each layer names its own, so that no layer below knows of this one.
 const LAYER: char = 'R';
 
 impl Located<StatementFault> {
-    // A fault of the settlement keeps its own number and letter; every fault is told at its byte offset.
+    /// The fault's number, layer and byte offset. A fault of the settlement, or of its book, keeps its own number and letter.
     pub fn label(self) -> Label<usize>
         ensures { result ≡ label self }
     {

@@ -1,5 +1,5 @@
-// A printed line, a buffer by rule (docs/DECISIONS.md, Forms of code): of 96 bytes the first `len` are written, the others are 0.
-// A String would need the heap, which a refusal is printed without.
+//! A printed line: of 96 bytes the first `len` are written, the others are 0, as docs/DECISIONS.md (Forms of code) has it.
+//! It takes nothing from the heap, so that a refusal is printed also where no memory is left.
 ghost use Rattle.std.specs.Prelude.{◌≡◌, ℕ, ◌≤◌, List, take, slice_index, Some};
 ghost use Rattle.statement.specs.declared.line.TheConstants.{LINE_BYTES};
 
@@ -8,16 +8,17 @@ use std::{fmt, str};
 
 mod puts;
 
+/// How many bytes a line has room for; the longest of a statement is shorter.
 pub(crate) const LINE_BYTES: usize = 96;
 
-// No comparison is derived, as nothing compares lines: what is written is compared.
+/// A line as far as it is written. One that is empty prints nothing.
 #[derive(Debug, Drop)]
 pub struct PrintedLine {
     bytes: [u8; LINE_BYTES],
     len: usize,
 }
 
-// Contracts see the bytes written.
+/// Contracts see the bytes written.
 impl Model for PrintedLine {
     ghost Value = { List ℕ };
 

@@ -1,4 +1,4 @@
-// A month file settled: read, opened, recorded and closed.
+//! A month file settled: read, opened, recorded and closed.
 ghost use Rattle.std.specs.Prelude.{◌≡◌, ◌≤◌, [], length, drop, IfOk, IsOk, IsErrOf};
 ghost use Rattle.statement.specs.Answers.{Leaves, AnswersInMemory};
 ghost use Rattle.statement.specs.Files.{records_of, month_part, roster_from};
@@ -16,21 +16,14 @@ use crate::reader::{
     DAY_BYTES, MONTH_BYTES, RESOURCE_BYTES, day_record, month_record, roster_record,
 };
 use crate::roster::Roster;
-use assessment::day_result::{DAY_PLACES, DayFigures, DayRow};
-use assessment::flexible_rule::FlexibleRule;
-use assessment::generic_rule::GenericRule;
-use assessment::rule_pair::SHIPPED_RULES;
-use fund::balance_book::BalanceBook;
-use fund::overlay::Overlay;
-use pools::per_pool::PerPool;
-use settlement::fault::SettlementFault;
-use settlement::settlement::Settlement;
-use settlement::tables::{LINES, LineEntry, MonthTerms, SubmittedDay};
+use assessment::{DAY_PLACES, DayFigures, DayRow, FlexibleRule, GenericRule, SHIPPED_RULES};
+use fund::{BalanceBook, Overlay};
+use pools::PerPool;
+use settlement::{LINES, LineEntry, MonthTerms, Settlement, SettlementFault, SubmittedDay};
 use std::alloc::Global;
 use std::marker::Model;
 
-// A month in progress: a settlement over a balance book under the advisory overlay, and the tables handed in with its calls.
-// Nothing compares or prints it, so it has no more derives.
+/// A month in progress: a settlement over a balance book under the advisory overlay, and the tables handed in with its calls.
 #[derive(Drop)]
 struct MonthInProgress {
     terms: MonthTerms,
@@ -39,7 +32,7 @@ struct MonthInProgress {
     rows: Vec<DayRow>,
 }
 
-// Contracts see what the month was opened with, and the day table.
+/// Contracts see what the month was opened with, and the day table.
 impl Model for MonthInProgress {
     ghost use Rattle.statement.specs.Open.{MonthSoFar, OpenedBy};
 
@@ -56,7 +49,7 @@ fn read_roster(heap: Global, file: &[u8]) -> Result<Roster, NoStatement>
     ensures within { IfOk result (λ r. days_offset r ≤ length file.now) }
 {
     let mut roster = Roster::empty(heap)?;
-    // By offsets, since a fault is told at one.
+    // `at` is the record's byte offset, at which its fault is told.
     for at in (MONTH_BYTES..file.len()).step_by(RESOURCE_BYTES) {
         let number = roster.entries().len();
         match at_offset(roster_record(&file[at..], number), at)? {
@@ -68,7 +61,7 @@ fn read_roster(heap: Global, file: &[u8]) -> Result<Roster, NoStatement>
 }
 
 impl MonthInProgress {
-    // Opens the month over an empty day table.
+    /// Opens the month over an empty day table. A fault is told at offset 0, the month record.
     fn open(heap: Global, terms: MonthTerms, roster: Roster) -> Result<MonthInProgress, NoStatement>
         ensures { AnswersInMemory (λ m. m) result (opened_month terms roster) }
     {
@@ -92,13 +85,13 @@ impl MonthInProgress {
             .record(self.roster.entries(), &mut self.rows, day)
     }
 
-    // Records the days, which follow the resources.
+    /// Records the days, which follow the resources.
     fn record_days(&mut self, file: &[u8]) -> Result<(), NoStatement>
         requires { days_offset self.old.roster ≤ length file.now }
         ensures value { AnswersInMemory (λ _. days_part self.new.rows (length file.now)) result (days_recorded self.old file.now) }
         ensures same { (self.new.terms ≡ self.old.terms) × (self.new.roster ≡ self.old.roster) }
     {
-        // By offsets, since a fault is told at one.
+        // `at` is the record's byte offset, at which its fault is told.
         for at in (self.roster.end()..file.len()).step_by(DAY_BYTES) {
             let day = at_offset(day_record(&file[at..]), at)?;
             at_offset(self.record(&day), at)?;
@@ -106,7 +99,7 @@ impl MonthInProgress {
         Ok(())
     }
 
-    // Closes the month, and looks up what the pools then show. A fault is told at the offset.
+    /// Closes the month, and looks up what the pools then show. A fault is told at the byte offset handed in.
     fn close(self, heap: Global, offset: usize) -> Result<ClosedMonth, NoStatement>
         ensures value { AnswersInMemory closed_of result (told_at offset (closed_month self.terms self.roster self.rows)) }
         ensures closed { IfOk result (λ x. ClosedBy (closed_of x)) }
@@ -133,7 +126,7 @@ impl MonthInProgress {
     }
 }
 
-// The month that the file tells, closed; or the first fault.
+/// The month that the file tells, closed; or the first fault, or the want of memory, which is first asked for after the month record.
 pub(crate) fn settle_month(heap: Global, file: &[u8]) -> Result<ClosedMonth, NoStatement>
     ensures value { AnswersInMemory closed_of result (settled file.now) }
     ensures begun { IsErrOf result OutOfMemory → IsOk (month_part (records_of file.now)) }

@@ -1,4 +1,4 @@
-// Why a month file has no statement.
+//! Why a month file has no statement.
 ghost use Rattle.std.specs.Prelude.{◌≡◌};
 ghost use Rattle.statement.specs.Refusals.{shown};
 ghost use Rattle.statement.specs.declared.no_statement.NoStatement.TheVariants.{Refused, OutOfMemory};
@@ -9,14 +9,16 @@ use std::alloc::AllocError;
 use std::error::Error;
 use std::fmt;
 
-// The file is refused, or memory ran out.
+/// The file is refused, or memory ran out.
 #[derive(Clone, Copy, PartialEq, Eq, Debug, Drop)]
 pub enum NoStatement {
+    /// The file's first fault, and the byte offset at which it is told.
     Refused(Located<StatementFault>),
+    /// Memory ran out. The file begins with a month record, and nothing else is told of it.
     OutOfMemory,
 }
 
-// By hand, since its text stands in the contract: a refusal is shown as its line.
+/// The text stands in the contract: a refusal is shown as its line.
 impl fmt::Display for NoStatement {
     ghost output = { shown };
 
@@ -30,7 +32,7 @@ impl fmt::Display for NoStatement {
 
 impl Error for NoStatement {}
 
-// The conversions are by hand too, since contracts need the case that `?` makes.
+/// This conversion and the next are by hand: contracts name the case that `?` makes, and a derived one has no contract.
 impl<F> From<Located<F>> for NoStatement
 where
     StatementFault: From<F>,

@@ -1,4 +1,4 @@
-// Reads the records of a month file. Every field is a 32-bit word, most significant byte first.
+//! Reads the records of a month file, nothing but 32-bit numbers in big-endian order, each where a record of its kind is due.
 ghost use Rattle.std.specs.Prelude.{◌≡◌, ◌+◌, ◌*◌, ◌<◌, ◌≤◌, length, IfOk, OnOk, MatchResult};
 ghost use Rattle.statement.specs.Layout.{words_of, hours_told, month_of, resource_of, day_of, record_of, size_of};
 ghost use Rattle.statement.specs.declared.fault.ReaderFault.TheVariants.{EndsInside};
@@ -7,30 +7,30 @@ ghost use Rattle.statement.specs.Reading.{as_month, as_resource, as_day};
 
 use crate::fault::ReaderFault;
 use crate::records::{FileRecord, NumberedResource};
-use assessment::submission::{DaySubmission, HOURS, HourBids, Showing};
-use assessment::trade_month::TradeMonth;
-use pools::per_pool::PerPool;
-use settlement::fault::ResourceDay;
-use settlement::tables::{MonthTerms, RosterEntry, SubmittedDay};
+use assessment::{DaySubmission, HOURS, HourBids, Showing, TradeMonth};
+use pools::PerPool;
+use settlement::{MonthTerms, ResourceDay, RosterEntry, SubmittedDay};
 use std::array;
 
-// How many bytes each kind of record takes, its first word among them: plain numbers, as docs/month-file.md gives them.
+/// How many bytes a month record takes, its first word among them, as docs/month-file.md gives them.
 pub const MONTH_BYTES: usize = 36;
 
+/// How many bytes a resource takes, likewise.
 pub const RESOURCE_BYTES: usize = 16;
 
+/// How many bytes a resource's day takes, likewise.
 pub const DAY_BYTES: usize = 412;
 
 const WORD_BYTES: usize = 4;
 
-// For each market a bid of two words.
+/// For each market a bid of two words.
 const HOUR_WORDS: usize = 4;
 
 const BID_WORDS: usize = HOUR_WORDS * HOURS;
 
-// The words that the bytes begin with; a file that has fewer ends inside its record.
-// By place, here and in `hours`, and not by `map` of a `first_chunk`: `map` asks that its iterator over N elements fits in memory, which isn't
-// so of every N; tried in `hours`, where it is so, it settles a file in a quarter more instructions.
+/// The words that the bytes begin with; a file that has fewer ends inside its record (40).
+/// Made by place, here and in `hours`: a `map` over an array asks that an iterator over its N elements fits in memory, which is not so of
+/// every N, and in `hours`, where it is so, a file takes a quarter more instructions with it.
 fn words<const N: usize>(bytes: &[u8]) -> Result<[u32; N], ReaderFault>
     ensures { MatchResult result (λ ws. (4 * N ≤ length bytes.now) × (ws ≡ words_of N bytes.now)) (λ e. (length bytes.now < 4 * N) × (e ≡ EndsInside)) }
 {
@@ -48,7 +48,7 @@ fn hours(bids: &[u32; BID_WORDS]) -> [HourBids; HOURS]
     array::from_fn(|hour| HourBids::from(hours[hour]))
 }
 
-// Here and below, `within`: a record with its first word, 4 bytes, takes no more than there are.
+/// Here and below, `within`: a record with its first word, 4 bytes, takes no more than there are.
 #[tactic(auto, unfolding(crate::specs::Layout::month_of, crate::specs::Layout::words_of))]
 fn read_month(rest: &[u8]) -> Result<FileRecord, ReaderFault>
     ensures value { result ≡ month_of rest.now }
@@ -125,7 +125,8 @@ fn read_day(rest: &[u8]) -> Result<FileRecord, ReaderFault>
     }))
 }
 
-// The record that the bytes begin with: its first word tells its kind. By a slice pattern (docs/DECISIONS.md, Forms of code).
+/// The record that the bytes begin with: its first word tells its kind, by a slice pattern as docs/DECISIONS.md (Forms of code)
+/// has it. Refuses bytes that end inside the record (40), and a kind that is none (41).
 pub fn next_record(bytes: &[u8]) -> Result<FileRecord, ReaderFault>
     ensures value { result ≡ record_of bytes.now }
     ensures within { IfOk result (λ x. size_of x ≤ length bytes.now) }
@@ -141,7 +142,7 @@ pub fn next_record(bytes: &[u8]) -> Result<FileRecord, ReaderFault>
     }
 }
 
-// The month record that the bytes begin with. Month and day have a function each, since each takes another variant out.
+/// The month record that the bytes begin with. Refuses what `next_record` refuses, and a record of another kind (43).
 pub fn month_record(bytes: &[u8]) -> Result<MonthTerms, ReaderFault>
     ensures value { result ≡ as_month (record_of bytes.now) }
     ensures within { OnOk result (MONTH_BYTES ≤ length bytes.now) }
@@ -152,13 +153,14 @@ pub fn month_record(bytes: &[u8]) -> Result<MonthTerms, ReaderFault>
     }
 }
 
-// The resource of this number that the bytes begin with; None where the days begin.
-// The number is converted by `as`, since a u32 has no From to a usize.
+/// The resource of this number that the bytes begin with; None where they begin with a day. Refuses what `next_record` refuses,
+/// a month record, and a resource of another number (43).
 pub fn roster_record(bytes: &[u8], number: usize) -> Result<Option<RosterEntry>, ReaderFault>
     ensures value { result ≡ as_resource number (record_of bytes.now) }
     ensures within { OnOk result (RESOURCE_BYTES ≤ length bytes.now) }
 {
     match next_record(bytes)? {
+        // `as` loses nothing: any u32 fits a usize.
         FileRecord::Resource(resource) if resource.number as usize == number => {
             Ok(Some(resource.entry))
         }
@@ -167,7 +169,7 @@ pub fn roster_record(bytes: &[u8], number: usize) -> Result<Option<RosterEntry>,
     }
 }
 
-// The day record that the bytes begin with.
+/// The day record that the bytes begin with. Refuses what `next_record` refuses, and a record of another kind (43).
 pub fn day_record(bytes: &[u8]) -> Result<SubmittedDay, ReaderFault>
     ensures value { result ≡ as_day (record_of bytes.now) }
     ensures within { OnOk result (DAY_BYTES ≤ length bytes.now) }

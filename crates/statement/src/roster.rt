@@ -1,24 +1,24 @@
-// The resources of a month file: up to 64, numbered from 0 in their order.
+//! The resources of a month file: up to 64, numbered from 0 in their order.
 ghost use Rattle.std.specs.Prelude.{◌≤◌, List, length, vec_capacity};
 ghost use Rattle.settlement.specs.Tables.{RosterFits};
 ghost use Rattle.settlement.specs.declared.tables.RosterEntry.{RosterEntry};
 ghost use Rattle.statement.specs.declared.roster.TheConstants.{MOST_RESOURCES};
 
-use settlement::tables::RosterEntry;
+use settlement::RosterEntry;
 use std::marker::Model;
 
 mod entries;
 
-// Fewer than the 512 that a settlement takes.
+/// The most resources of a month file: fewer than the 512 that a settlement takes.
 const MOST_RESOURCES: usize = 64;
 
-// No comparison is derived: what a model shows of a Vec cannot give the Vec back.
+/// Up to 64 resources, each at the place of its number, of a category up to 3.
 #[derive(Debug, Drop)]
 pub(crate) struct Roster {
     entries: Vec<RosterEntry>,
 }
 
-// Contracts see the resources. There is always room for 64, so that only a 65th is refused.
+/// Contracts see the resources. There is always room for 64, so that only a 65th is refused.
 impl Model for Roster {
     ghost Value = { List RosterEntry };
 

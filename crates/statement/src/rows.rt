@@ -1,5 +1,5 @@
-// The lines of a statement, and the line of a refusal.
-// Not by `write!`: it promises its text only where it succeeds, and nothing shows that it does.
+//! The lines of a statement, and the line of a refusal. Each ends in a line feed.
+//! They are put together byte by byte: `write!` promises its text only where it succeeds, and nothing shows that it does.
 ghost use Rattle.std.specs.Prelude.{◌≡◌, ◌+◌, ◌<◌, ◌≤◌, ◌++◌, length};
 ghost use Rattle.pools.specs.PerPool.{entry_of};
 ghost use Rattle.statement.specs.Rows.{two_digits, header_row, line_row, pool_row, refusal_row};
@@ -7,8 +7,8 @@ ghost use Rattle.statement.specs.Rows.{two_digits, header_row, line_row, pool_ro
 use crate::closed_month::ClosedMonth;
 use crate::fault::{Located, StatementFault};
 use crate::line::{LINE_BYTES, PrintedLine};
-use pools::pool::Pool;
-use settlement::tables::LineEntry;
+use pools::Pool;
+use settlement::LineEntry;
 
 fn put_two_digits(line: &mut PrintedLine, n: u32)
     requires { length line.old + 11 ≤ LINE_BYTES }
@@ -21,7 +21,7 @@ fn put_two_digits(line: &mut PrintedLine, n: u32)
     line.put_decimal(n);
 }
 
-// The header: the month, and whether it is binding or advisory.
+/// The header: the month, and whether it is binding or advisory.
 pub(crate) fn header_row(month: &ClosedMonth) -> PrintedLine
     ensures { result ≡ header_row month.now.terms }
 {
@@ -37,7 +37,7 @@ pub(crate) fn header_row(month: &ClosedMonth) -> PrintedLine
     line
 }
 
-// A line: its resource, pool, obligation, availability, state and cents.
+/// A line: its resource by number, its pool, obligation and availability in watts, its state, and what it is charged or paid in cents.
 pub(crate) fn line_row(resource: usize, pool: Pool, entry: &LineEntry) -> PrintedLine
     ensures { result ≡ line_row resource pool entry.now }
 {
@@ -57,7 +57,7 @@ pub(crate) fn line_row(resource: usize, pool: Pool, entry: &LineEntry) -> Printe
     line
 }
 
-// A pool: its charges, rate, payments and the balance shown.
+/// A pool: its charges in cents, the rate in cents per megawatt and month, its payments and the balance then shown, in cents.
 pub(crate) fn pool_row(month: &ClosedMonth, pool: Pool) -> PrintedLine
     ensures { result ≡ pool_row pool (entry_of month.now.pools pool) (entry_of month.now.shown pool) }
 {
@@ -77,7 +77,7 @@ pub(crate) fn pool_row(month: &ClosedMonth, pool: Pool) -> PrintedLine
     line
 }
 
-// A refusal: the fault's number, the letter of its layer, and the byte offset.
+/// A refusal: the fault's number, the letter of its layer, and the byte offset.
 pub fn refusal_row(fault: Located<StatementFault>) -> PrintedLine
     ensures { result ≡ refusal_row fault }
 {
@@ -86,7 +86,7 @@ pub fn refusal_row(fault: Located<StatementFault>) -> PrintedLine
     line.put_text(b"REFUSED ");
     line.put_decimal(label.number);
     line.put_byte(b' ');
-    // A char, since two programs print it by `{}`, where a u8 would be a number; here it is put as its one byte.
+    // A char, as `{}` prints a u8 as a number; the letter, R, S or B, has one byte.
     line.put_byte(u8::try_from(label.layer).unwrap());
     line.put_byte(b' ');
     line.put_decimal(label.place);

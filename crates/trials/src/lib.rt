@@ -1,5 +1,11 @@
+//! Tests of the libraries through their public calls: published figures, and limits at their edges.
 #![tactic(auto)]
 
-// The smallest month files, settled through the public call of the library.
+#[cfg(test)]
+mod assessments;
+#[cfg(test)]
+mod books;
+#[cfg(test)]
+mod settlements;
 #[cfg(test)]
 mod statements;

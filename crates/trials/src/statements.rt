@@ -1,7 +1,5 @@
-// The smallest month files and their outputs. Longer files are run by the program `vectors`.
-use statement::job::settle_file;
-use statement::no_statement::NoStatement;
-use statement::rows::refusal_row;
+//! The smallest month files and their outputs. Longer files are run by the program `vectors`.
+use statement::{NoStatement, refusal_row, settle_file};
 use std::process::Abort;
 use std::test::Fail;
 

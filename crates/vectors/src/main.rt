@@ -1,14 +1,17 @@
-// Runs month files through the library, and compares each output byte by byte with the one expected.
-// Standard input names the files, one to a line: NAME.month, and its output in NAME.statement.
+//! Runs month files and scripts of calls through the libraries, and compares each output byte by byte with the one expected.
+//! Standard input names them, one to a line: NAME for NAME.month, with its output in NAME.statement, or NAME.script, with its
+//! answers in NAME.answers.
 #![tactic(auto)]
 
+mod recorder;
+
 use anyhow::ensure;
-use statement::job::settle_file;
-use statement::no_statement::NoStatement;
+use recorder::Recorder;
+use scripts::run_script;
+use statement::{NoStatement, settle_file};
 use std::fs;
 
-// How many files were run, and how many of them came out as expected.
-// The Tally of examples counts figures and not files, and those that were published beside.
+/// How many files were run, and how many of them came out as expected.
 #[derive(Clone, Copy, PartialEq, Eq, Debug, Default)]
 struct Tally {
     run: u64,
@@ -24,21 +27,56 @@ impl Tally {
     }
 }
 
-fn run_file(rt: &HostRuntime, name: &str) -> anyhow::Result<bool> {
+/// What a file came to: how it ended, in a word, and its output.
+#[derive(Drop)]
+struct Outcome {
+    ended: &'static str,
+    output: Vec<u8>,
+}
+
+fn settled(rt: &HostRuntime, name: &str) -> anyhow::Result<Outcome> {
     let file = fs::read(rt, format!(in rt.alloc(); "{name}.month")?)?;
-    let expected = fs::read(rt, format!(in rt.alloc(); "{name}.statement")?)?;
-    let (outcome, output) = match settle_file(rt.alloc(), file.as_slice()) {
-        Ok(statement) => ("settled", statement),
-        Err(refusal @ NoStatement::Refused(_)) => {
-            ("refused", format!(in rt.alloc(); "{refusal}")?.into_bytes())
-        }
+    match settle_file(rt.alloc(), file.as_slice()) {
+        Ok(output) => Ok(Outcome {
+            ended: "settled",
+            output,
+        }),
+        Err(refusal @ NoStatement::Refused(_)) => Ok(Outcome {
+            ended: "refused",
+            output: format!(in rt.alloc(); "{refusal}")?.into_bytes(),
+        }),
         // A refusal is an output; any other error is handed on.
-        Err(error) => return Err(error.into()),
+        Err(error) => Err(error.into()),
+    }
+}
+
+fn answered(rt: &HostRuntime, name: &str) -> anyhow::Result<Outcome> {
+    let script = fs::read_to_string(rt, format!(in rt.alloc(); "{name}.script")?)?;
+    let recorder = Recorder::new(rt.alloc());
+    run_script(&recorder, rt.alloc(), script.as_str())?;
+    Ok(Outcome {
+        ended: "answered",
+        output: recorder.into_bytes(),
+    })
+}
+
+/// Runs the file that a line names, and tells whether its output is the one expected.
+fn run_file(rt: &HostRuntime, line: &str) -> anyhow::Result<bool> {
+    let (outcome, expected) = match line.strip_suffix(".script") {
+        Some(name) => (
+            answered(rt, name)?,
+            format!(in rt.alloc(); "{name}.answers")?,
+        ),
+        None => (
+            settled(rt, line)?,
+            format!(in rt.alloc(); "{line}.statement")?,
+        ),
     };
-    let agrees = output == expected;
+    let agrees = outcome.output == fs::read(rt, expected)?;
     let verdict = if agrees { "as expected" } else { "DIFFERS" };
-    let bytes = output.len();
-    println!(rt; "{name}: {outcome}, {bytes} bytes, {verdict}")?;
+    let ended = outcome.ended;
+    let bytes = outcome.output.len();
+    println!(rt; "{line}: {ended}, {bytes} bytes, {verdict}")?;
     Ok(agrees)
 }
 

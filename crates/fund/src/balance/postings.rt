@@ -1,4 +1,4 @@
-// What postings do to one balance.
+//! What postings do to one balance.
 ghost use Rattle.std.specs.Prelude.{◌≡◌, ◌+◌, ◌-◌, ◌≤◌, ◌↔◌, IsOk, OnOk, OnErr, IfErr};
 ghost use Rattle.fund.specs.Balances.{limit};
 ghost use Rattle.fund.specs.declared.fault.BookFault.TheVariants.{OverLimit, AboveBalance};
@@ -6,9 +6,10 @@ ghost use Rattle.fund.specs.declared.fault.BookFault.TheVariants.{OverLimit, Abo
 use crate::balance::Balance;
 use crate::book::LIMIT;
 use crate::fault::BookFault;
-use pools::pool::Pool;
+use pools::Pool;
 
 impl Balance {
+    /// A balance of so many cents, within the limit.
     pub(crate) fn new(cents: u64) -> Balance
         requires { cents ≤ limit }
         ensures { result.cents ≡ cents }
@@ -16,6 +17,7 @@ impl Balance {
         Balance { cents }
     }
 
+    /// Its cents, 0 to 7,000,000,000,000.
     pub(crate) fn cents(self) -> u64
         ensures value { result ≡ self.cents }
         ensures within { result ≤ limit }
@@ -23,7 +25,7 @@ impl Balance {
         self.cents
     }
 
-    // Adds the amount, unless the balance would pass the limit.
+    /// Adds an amount in cents. Refused with `OverLimit` of the pool where the balance would pass the limit.
     pub(crate) fn post_in(&mut self, pool: Pool, amount: u64) -> Result<(), BookFault>
         ensures taken { IsOk result ↔ (self.old.cents + amount ≤ limit) }
         ensures raised { OnOk result (self.new.cents ≡ self.old.cents + amount) }
@@ -37,7 +39,7 @@ impl Balance {
         Ok(())
     }
 
-    // Takes the amount off, unless it is above the balance.
+    /// Takes an amount in cents off. Refused with `AboveBalance` of the pool where it is more than the balance.
     pub(crate) fn post_out(&mut self, pool: Pool, amount: u64) -> Result<(), BookFault>
         ensures taken { IsOk result ↔ (amount ≤ self.old.cents) }
         ensures lowered { OnOk result (self.new.cents ≡ self.old.cents - amount) }

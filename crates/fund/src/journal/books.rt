@@ -1,4 +1,4 @@
-// `Journal` as a fund book.
+//! `Journal` as a fund book.
 ghost use Rattle.std.specs.Prelude.{◌≡◌, ◌<◌, ◌≤◌, ◌↔◌, None, IsOk, IfOk, IfErr, MatchResult, vec_len};
 ghost use Rattle.fund.specs.Balances.{limit};
 ghost use Rattle.fund.specs.Faults.{label, labelled};
@@ -15,11 +15,11 @@ use crate::journal::{FEWEST_PLACES, Journal, MOST_PLACES, RefusedPlaces};
 use crate::posting::{Direction, Posting, Side};
 use crate::standing::Standing;
 use crate::total::total;
-use pools::per_pool::PerPool;
-use pools::pool::Pool;
+use pools::{PerPool, Pool};
 
 impl Journal {
-    // An empty journal in the places handed in, 8 to 65,536 of them; any other number comes back with the fault.
+    /// An empty journal in the places handed in, 8 to 65,536 of them, whatever they hold. Any other number is refused with
+    /// `UnfitPlaces`, and the places come back.
     pub fn over(mut places: Vec<Posting>) -> Result<Journal, RefusedPlaces>
         ensures fits { IsOk result ↔ Fit (vec_len places) }
         ensures blank { IfOk result (λ j. pages_of j ≡ blank_pages (vec_len places)) }
@@ -40,15 +40,14 @@ impl Journal {
         })
     }
 
-    // The postings since the journal was last ruled off, what was brought forward first.
+    /// The postings since the journal was last ruled off, the earliest first; what was brought forward comes before all others.
     pub fn postings(&self) -> &[Posting]
         ensures { result.now ≡ (pages_of self.now).postings }
     {
         self.postings.as_slice()
     }
 
-    // What the postings of one direction in the pool come to.
-    // Direction and pool apart, here and below: a `Side` made at each of five calls would be no plainer.
+    /// What the postings of one direction in the pool come to, in cents.
     #[tactic(auto, unfolding(crate::specs::Postings::posted))]
     fn posted(&self, direction: Direction, pool: Pool) -> u128
         ensures { result ≡ posted direction pool (pages_of self.now).postings }
@@ -56,16 +55,16 @@ impl Journal {
         total(&self.postings, Side { pool, direction })
     }
 
-    // What came into the pool less what went out of it.
+    /// What came into the pool less what went out of it.
     fn balance(&self, pool: Pool) -> Balance
         ensures { result.cents ≡ balance (pages_of self.now).postings pool }
     {
         let cents = self.posted(Direction::In, pool) - self.posted(Direction::Out, pool);
-        // `as` narrows what is proved to be within the limit, so a TryFrom would have nothing to refuse.
+        // `as` loses nothing: a balance is within the limit.
         Balance::new(cents as u64)
     }
 
-    // Whether a posting to the pool finds a free place.
+    /// Refuses with `NoFreePlace` of the pool where no place is free.
     fn has_place(&self, pool: Pool) -> Result<(), BookFault>
         ensures { MatchResult result (λ _. vec_len self.now.postings < self.now.size) (λ e. (vec_len self.now.postings ≡ self.now.size) × (e ≡ NoFreePlace pool)) }
     {
@@ -75,7 +74,7 @@ impl Journal {
         Ok(())
     }
 
-    // Writes a posting into the first free place.
+    /// Writes a posting into the first free place. The caller has made sure that there is one.
     fn write(&mut self, direction: Direction, pool: Pool, amount: u64)
         requires { PagesSound (with_posting (pages_of self.old) (posting direction pool amount)) }
         ensures { pages_of self.new ≡ with_posting (pages_of self.old) (posting direction pool amount) }
@@ -86,7 +85,7 @@ impl Journal {
         });
     }
 
-    // Writes what is brought forward of one balance, if that is anything.
+    /// Writes what is brought forward of one balance, if that is anything.
     fn bring_forward(&mut self, pool: Pool, amount: u64)
         requires { PagesSound (with_brought (pages_of self.old) pool amount) }
         ensures { pages_of self.new ≡ with_brought (pages_of self.old) pool amount }
@@ -140,7 +139,7 @@ impl FundBook for Journal {
 
     fn post_in(&mut self, pool: Pool, amount: u64) -> Result<(), BookFault> {
         self.has_place(pool)?;
-        // The balance, posted to on trial, says whether the limit allows it.
+        // A copy of the balance takes the amount first: it says whether the limit allows it.
         self.balance(pool).post_in(pool, amount)?;
         self.write(Direction::In, pool, amount);
         Ok(())

@@ -1,4 +1,4 @@
-// A roster that grows by one resource at a time.
+//! A roster that grows by one resource at a time.
 ghost use Rattle.std.specs.Prelude.{◌≡◌, ◌≤◌, [], length, IfOk};
 ghost use Rattle.settlement.specs.Tables.{RosterFits};
 ghost use Rattle.statement.specs.Answers.{Leaves};
@@ -6,11 +6,11 @@ ghost use Rattle.statement.specs.Rosters.{days_offset, enrolled};
 
 use super::{MOST_RESOURCES, Roster};
 use crate::reader::{MONTH_BYTES, RESOURCE_BYTES};
-use settlement::fault::SettlementFault;
-use settlement::tables::RosterEntry;
+use settlement::{RosterEntry, SettlementFault};
 use std::alloc::{AllocError, Global};
 
 impl Roster {
+    /// No resources, and room for 64. Fails where memory runs out.
     pub(crate) fn empty(heap: Global) -> Result<Roster, AllocError>
         ensures { IfOk result (λ r. r ≡ []) }
     {
@@ -19,6 +19,7 @@ impl Roster {
         })
     }
 
+    /// The resources, by number.
     pub(crate) fn entries(&self) -> &[RosterEntry]
         ensures value { result.now ≡ self.now }
         ensures within { length self.now ≤ MOST_RESOURCES }
@@ -27,14 +28,14 @@ impl Roster {
         self.entries.as_slice()
     }
 
-    // The byte offset after the resources.
+    /// The byte offset after the resources.
     pub(crate) fn end(&self) -> usize
         ensures { result ≡ days_offset self.now }
     {
         MONTH_BYTES + RESOURCE_BYTES * self.entries.len()
     }
 
-    // The next resource; a 65th, or a category above 3, is refused.
+    /// Adds the next resource. Refuses a 65th, and a category above 3 (10).
     pub(crate) fn push(&mut self, entry: RosterEntry) -> Result<(), SettlementFault>
         ensures { Leaves result self.new (enrolled self.old entry) }
     {
