@@ -14,7 +14,7 @@ pub struct DayRecord {
     pub day: TradeDay,
     /// The resource's category in that month.
     pub category: Category,
-    /// Showings, exemptions and bids, each 0 to 2,000,000 kW, and no exemption above its showing.
+    /// Showings, exemptions and bids, each 0 to 2,000,000 kW; no exemption above its showing; in category 0 no flexible showing.
     pub submission: DaySubmission,
     ghost showings: { ShowingsWithin submission },
     ghost bids: { BidsWithin submission },

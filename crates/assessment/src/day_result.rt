@@ -6,7 +6,7 @@ ghost use Rattle.assessment.specs.Lines.{FiguresWithin, plus};
 use pools::PerPool;
 use std::ops::Add;
 
-/// What is owed and what is available in a pool. Any two numbers: the limits are those of `DayResult`.
+/// What is owed and what is available in a pool. Any two numbers: `DayResult` limits those of a day, `Line` those of a month.
 #[derive(Clone, Copy, Default, PartialEq, Eq, Debug)]
 pub struct Figures<N> {
     /// What the resource has to offer, in W.
@@ -18,7 +18,7 @@ pub struct Figures<N> {
 /// A pool's figures of a day, in W.
 pub type PoolFigures = Figures<u32>;
 
-/// Sums of such figures, in W, which may need more than 32 bits.
+/// Sums of such figures, in W, which may need more than 32 bits and fit 64.
 pub type Watts = Figures<u64>;
 
 impl From<PoolFigures> for Watts {
@@ -32,6 +32,7 @@ impl From<PoolFigures> for Watts {
     }
 }
 
+/// Field by field. Asks that both sums fit 64 bits.
 impl Add for Watts {
     type Output = Watts;
 

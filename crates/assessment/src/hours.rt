@@ -79,8 +79,7 @@ impl<G: AvailabilityRule, F: AvailabilityRule> RulePair<G, F> {
     {
         let due = self.due_in(submitted, hour);
         if due.generic.is_none() && due.flexible.is_none() {
-            // For speed: in most hours nothing is owed, so no rule can take anything. Passing them
-            // over saves a fifth of the assessment's instructions.
+            // For speed: where neither rule assesses the hour nothing is owed, and no rule takes more than that.
             return PerPool::default();
         }
         let owed = PerPool::of(|pool| due.get(pool).unwrap_or(0));

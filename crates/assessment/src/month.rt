@@ -40,7 +40,8 @@ struct MonthSum {
     ghost capped: { watts.obligation ≤ 62000000000 },
 }
 
-/// By hand: a struct with ghost fields cannot derive it.
+/// No days: 0 W.
+// By hand: none is derived for a struct with ghost fields.
 impl Default for MonthSum {
     ghost is_default = { λ sum. sum.watts ≡ record { obligation = 0; availability = 0 } };
 

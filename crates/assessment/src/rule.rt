@@ -17,7 +17,8 @@ pub trait AvailabilityRule {
         ensures { result ≡ (means self.now).assesses day.now.settings.month category.number day.now.day hour };
 
     /// What the rule takes of the bid towards the obligation, all in kW of one hour: of the economic bid, then of the
-    /// self-schedule.
+    /// self-schedule. Asked with any 32-bit numbers, and with an obligation of 0 in an hour that only the other pool's rule
+    /// assesses.
     fn take(&self, obligation: u32, bid: Bid) -> (u32, u32)
         ensures { result ≡ (means self.now).takes obligation bid.economic bid.self_scheduled };
 

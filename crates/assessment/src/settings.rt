@@ -26,7 +26,7 @@ pub struct MonthSettings {
 pub struct TradeDay {
     /// The month that the day is of.
     pub settings: MonthSettings,
-    /// Its number in the month, from 1.
+    /// Its number, 1 to the month's last day.
     pub day: u32,
     /// Whether it is a work day.
     pub kind: DayKind,

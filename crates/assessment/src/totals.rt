@@ -20,7 +20,8 @@ pub struct PoolTotals {
     ghost real_time_within: { real_time ≤ owed },
 }
 
-/// By hand: a struct with ghost fields cannot derive it.
+/// No hours, and nothing owed or given.
+// By hand: none is derived for a struct with ghost fields.
 impl Default for PoolTotals {
     ghost use Rattle.assessment.specs.Totals.{totals_of, totals_none};
 

@@ -24,9 +24,9 @@ pub const NOTHING: Bid = Bid {
 pub enum Offer {
     /// The same bid in every hour.
     EveryHour(Bid),
-    /// Nothing in one hour ending, the bid in every other.
+    /// Nothing in one hour ending, 1 to 24, the bid in every other.
     AllBut(u32, Bid),
-    /// One bid up to an hour ending and in it, another after it.
+    /// One bid up to an hour ending, 1 to 24, and in it, another after it.
     Until(u32, Bid, Bid),
 }
 

@@ -1,14 +1,14 @@
 //! The published figures, each with the unit of its last printed digit.
 use crate::comparison::Published;
 
-/// In W, for figures printed in MW.
+/// In W, as are the next two, for figures printed in MW.
 const MEGAWATT: u64 = 1_000_000;
 
 const HUNDREDTH_MEGAWATT: u64 = 10_000;
 
 const THOUSANDTH_MEGAWATT: u64 = 1_000;
 
-/// In millionths of the whole, for figures printed in per cent.
+/// In millionths of the whole, as is the next, for figures printed in per cent.
 const PER_CENT: u64 = 10_000;
 
 const HUNDREDTH_PER_CENT: u64 = 100;

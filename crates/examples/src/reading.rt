@@ -72,7 +72,7 @@ pub enum DayReading {
     Obligation,
     /// The availability, in W.
     Availability,
-    /// The availability in millionths of the obligation; 0 if nothing is owed.
+    /// The availability in millionths of the obligation, rounded down; 0 if nothing is owed.
     Share,
 }
 
@@ -83,7 +83,7 @@ pub enum LineReading {
     Obligation,
     /// The availability summed likewise, in W.
     Availability,
-    /// The sum of availability in millionths of that of obligation; 0 if nothing is owed.
+    /// The sum of availability in millionths of that of obligation, rounded down; 0 if nothing is owed.
     Share,
     /// The days assessed, 0 to 31.
     Days,

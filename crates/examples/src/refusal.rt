@@ -28,7 +28,8 @@ pub enum Refusal {
     TooLarge,
 }
 
-/// By hand: contracts name the case that `?` makes, and what thiserror derives has no contract.
+/// A day past its limits.
+// By hand: contracts name the case that `?` makes, and a derived conversion has no contract.
 impl From<DayBreach> for Refusal {
     ghost from_gives = { λ breach r. r ≡ PastLimits breach };
 

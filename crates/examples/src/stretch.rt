@@ -65,7 +65,7 @@ impl PlannedMonth {
     fn rows(&self, settings: &MonthSettings) -> Result<[DayRow; DAY_PLACES], Refusal>
         ensures { MatchResult result (λ all. all ≡ rows_of settings.now.month self.now.stretches.now) (RowsRefused settings.now.month self.now.stretches.now) }
     {
-        // from_fn and then try_map: the contract of try_from_fn does not say with which month and stretches it calls.
+        // `try_from_fn` would not do: its contract does not say what it calls.
         // `as` loses nothing: `past` is below 31.
         let rows: [_; DAY_PLACES] = array::from_fn(|past| self.row_on(settings, past as u32 + 1));
         rows.try_map(|row| row)

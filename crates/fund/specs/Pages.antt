@@ -16,7 +16,7 @@ pub record Pages : Type 0 where
   pub postings : List Posting
   pub places : ℕ
 
--- They are put together.
+-- The pages of these postings and so many places.
 abbrev pub pages : List Posting → ℕ → Pages
 pages xs n = record { postings = xs; places = n }
 

@@ -7,7 +7,7 @@ pub(crate) mod postings;
 /// What one pool holds.
 #[derive(Clone, Copy, PartialEq, Eq, Debug)]
 pub(crate) struct Balance {
-    /// Cents, 0 to 7,000,000,000,000.
+    /// Cents, 0 to `LIMIT`.
     cents: u64,
     ghost within: { cents ≤ limit },
 }

@@ -57,13 +57,13 @@ pub trait FundBook {
         ensures { MatchResult result (λ _. Taken means (state self.old) (state self.new) (stands standing)) (λ e. Refuses means (state self.old) (stands standing) e × (self.new ≡ self.old)) };
 
     /// Raises the pool's shown balance by an amount in cents, and in binding standing its binding balance too. Refused with
-    /// `NoFreePlace`, and where there is a place with `OverLimit`, if the shown balance would pass the limit. An amount of 0
+    /// `NoFreePlace` where no place is free, else with `OverLimit` if the shown balance would pass `LIMIT`. An amount of 0
     /// wants a place too; a posting uses one place at most.
     fn post_in(&mut self, pool: Pool, amount: u64) -> Result<(), BookFault>
         ensures { MatchResult result (λ _. Taken means (state self.old) (state self.new) (posts_in pool amount)) (λ e. Refuses means (state self.old) (posts_in pool amount) e × (self.new ≡ self.old)) };
 
     /// Lowers the pool's shown balance by an amount in cents, and in binding standing its binding balance too. Refused with
-    /// `NoFreePlace`, and where there is a place with `AboveBalance`, if the amount is more than the shown balance. An amount
+    /// `NoFreePlace` where no place is free, else with `AboveBalance` if the amount is more than the shown balance. An amount
     /// of 0 wants a place too; a posting uses one place at most.
     fn post_out(&mut self, pool: Pool, amount: u64) -> Result<(), BookFault>
         ensures { MatchResult result (λ _. Taken means (state self.old) (state self.new) (posts_out pool amount)) (λ e. Refuses means (state self.old) (posts_out pool amount) e × (self.new ≡ self.old)) };

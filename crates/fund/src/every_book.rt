@@ -30,8 +30,8 @@ pub fn account_of<B: FundBook>(book: &B, pool: Pool) -> Account
     }
 }
 
-/// Rules the book off if fewer places are free than that many postings want. For up to 6 postings there are then places; for
-/// more there may be none. Balances and standing stay.
+/// Rules the book off if fewer places are free than that many postings want. For up to 6 postings there are then places; of
+/// more, the last may find none. Balances and standing stay.
 #[tactic(auto, using(crate::specs::LawsLemmas::roomy, crate::specs::LawsLemmas::ruling_off_makes_room, crate::specs::LawsLemmas::four_postings_have_places))]
 pub fn make_room<B: FundBook>(book: &mut B, postings: usize)
     ensures made { B.state book.new ≡ with_room B.means (B.state book.old) postings }

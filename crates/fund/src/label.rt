@@ -6,9 +6,9 @@ use std::fmt;
 /// The label of a fault. It is generic in the place: a pool, a resource's day, a byte offset.
 #[derive(Clone, Copy, PartialEq, Eq, Debug)]
 pub struct Label<P> {
-    /// The number of the fault, 30 to 34 of a book. The layers share no number, so it tells the fault by itself.
+    /// The number of the fault: 30 to 34 of a book, 10 to 20 but for 14 of a settlement, 40, 41 and 43 of what reads a file.
     pub number: u8,
-    /// The letter of the layer, B for a book.
+    /// The letter of the layer, B for a book. A char, as `{}` would print a u8 as a number; a statement prints it as one byte.
     pub layer: char,
     /// What the fault is about.
     pub place: P,

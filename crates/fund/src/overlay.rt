@@ -63,6 +63,7 @@ impl<B: FundBook> FundBook for Overlay<B> {
 
     fn standing(&self) -> Standing {
         match self.entries {
+            // The lower book is binding in every run, but the type does not say so.
             None => self.lower.standing(),
             Some(_) => Standing::Advisory,
         }
@@ -86,6 +87,7 @@ impl<B: FundBook> FundBook for Overlay<B> {
     fn stand(&mut self, standing: Standing) -> Result<(), BookFault> {
         match standing {
             Standing::Binding => {
+                // Stood again, as the state led to is named by the lower book, which may have other places then.
                 self.lower.stand(Standing::Binding)?;
                 self.entries = None;
             }

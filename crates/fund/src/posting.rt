@@ -27,7 +27,7 @@ pub struct Side {
 pub struct Posting {
     /// The pool and the direction.
     pub side: Side,
-    /// Cents, 0 or more; in a journal at most `LIMIT`.
+    /// Cents; in a journal at most `LIMIT`.
     pub amount: u64,
 }
 

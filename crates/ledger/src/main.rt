@@ -1,4 +1,4 @@
-//! Drives a settlement by a script of calls on standard input, and answers each on standard output.
+//! Drives a settlement by a script of calls on standard input, and answers them on standard output.
 #![tactic(auto)]
 
 use scripts::{Stop, run_script};

@@ -18,8 +18,9 @@ pub struct PerPool<T> {
 }
 
 impl<T> PerPool<T> {
-    /// What the function answers for each pool, asked for the generic pool first. The contract has a clause for each
-    /// pool: with one clause over both, proofs of `fund` stay open.
+    /// What the function answers for each pool, asked for the generic pool first. Asks that the function may be called
+    /// for each.
+    // A clause for each pool, as docs/DECISIONS.md says.
     pub fn of<F: Fn(Pool) -> T>(entry: F) -> PerPool<T>
         requires { (p : Pool) → F.pre entry p }
         ensures generic { F.post entry Generic result.generic }

@@ -55,7 +55,7 @@ pub enum Call {
 
 /// Categories as a roster: each resource's identifier is its number.
 fn roster(heap: Global, categories: &[u32]) -> Result<Vec<RosterEntry>, LineFault> {
-    // Counted by `enumerate`, in a usize: a range of u32 ends at the type's top, and drops what comes after.
+    // Counted in a usize, so that a roster too long for 32 bits is refused below and not cut short.
     categories
         .iter()
         .enumerate()

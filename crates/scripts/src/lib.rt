@@ -1,4 +1,4 @@
-//! Scripts of calls: a settlement is driven by them, line by line, and each call is answered in a line or more.
+//! Scripts of calls: a settlement is driven by them, line by line, and each call made of it is answered.
 #![tactic(auto)]
 
 mod answers;

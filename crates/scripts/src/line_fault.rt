@@ -9,7 +9,7 @@ pub enum LineFault {
     /// The first word is no call's name.
     #[error("there is no such call")]
     NoSuchCall,
-    /// The script's first call is another one.
+    /// The script's first call is not `start`.
     #[error("the first call is start")]
     StartComesFirst,
     /// A `start` after the first call.

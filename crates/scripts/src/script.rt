@@ -90,8 +90,8 @@ impl Script<'_> {
         }
     }
 
-    /// Starts a settlement over the book that the first call names, makes the other calls, and answers each. Ends at the first line
-    /// that is not followed; a journal of too few or too many places ends it too, but is answered and is no fault of the line.
+    /// Starts a settlement over the book that the first call names, and follows the other lines. Ends at the first line that is not
+    /// followed; a journal of too few or too many places ends it too, but is answered and is no fault of the line.
     fn run(&self, rt: &impl Print, heap: Global) -> Result<(), Stop> {
         let BookPlan { layers, ground } = self
             .book_plan(heap)
@@ -117,8 +117,10 @@ fn script_lines<'a>(heap: Global, text: &'a str) -> Result<Vec<ScriptLine<'a>>, 
         .collect(heap)
 }
 
-/// Drives a settlement by the script, and prints the answer to each call. Stops at the first line that is not followed, where memory
-/// runs out and where an answer cannot be printed; the answers before it are printed by then. A script without a call answers nothing.
+/// Drives a settlement by the script, and prints the answer to each call but `roster`, `tables` and `row`, which answer nothing. Stops
+/// with an error at the first line that is not followed, where memory runs out and where an answer cannot be printed; the answers
+/// before it are printed by then. A journal of too few or too many places is answered with its refusal, and ends the script without
+/// an error. A script without a call answers nothing.
 pub fn run_script(rt: &impl Print, heap: Global, text: &str) -> Result<(), Stop> {
     let lines = script_lines(heap, text)?;
     match lines.split_first() {

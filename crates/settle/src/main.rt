@@ -5,7 +5,7 @@ use statement::{NoStatement, settle_file};
 use std::io::{Read, Write};
 use std::process::ExitCode;
 
-/// The status tells a statement from a refusal.
+/// Prints the statement (status 0) or the refusal (status 1). Any other error goes to standard error, with status 1 too.
 fn run(rt: &HostRuntime) -> anyhow::Result<ExitCode> {
     let mut file = Vec::new(rt.alloc());
     rt.stdin().read_to_end(&mut file)?;

@@ -69,7 +69,7 @@ pub record MayTakeDay (p : Phase) (roster : List RosterEntry) (rows : List DayRo
   pub within : DayWithin d
   pub allowed : FlexibleAllowed (category_of roster at.resource) d
 
--- the first test that fails tells the fault, which is about the day
+-- the first test that fails tells the fault; from 16 on it is about the day
 abbrev pub RefusesDay : Phase → List RosterEntry → List DayRow → ResourceDay → DaySubmission → SettlementFault → Type 0
 RefusesDay p roster rows at d UnfitTables = DaysFit roster rows → ⊥
 RefusesDay p roster rows at d OutOfTurn = DaysFit roster rows × (IsOpen p → ⊥)

@@ -113,16 +113,20 @@ pub data Run {S : Type 0} (m : FundMeaning S) (sound : S → Type 0) (r : Rules)
 
 -- What each call promises: a run up to its entry goes on to its exit, taken or refused.
 module _ {S : Type 0} (m : FundMeaning S) (sound : S → Type 0) where
+  -- an open, whatever tables it was handed
   abbrev pub OpenGoesOn : Rules → View S → MonthTerms → List RosterEntry → Result (Unit {0}) SettlementFault → Rules → View S → List DayRow → Type 0
   OpenGoesOn r v t roster a r' w rows' = (h : History) → Run m sound r h v → Run m sound r' (after_open h t roster a rows') w
 
+  -- a record; a taken one only if it got roster and day table as they were left
   abbrev pub RecordGoesOn : Rules → View S → List RosterEntry → List DayRow → SubmittedDay → Result DayFigures SettlementFault → List DayRow → Type 0
   RecordGoesOn r v roster rows d a rows' =
       (h : History) → Run m sound r h v → HandedIfTaken h.current roster rows a → Run m sound r (after_record h d a rows') v
 
+  -- a close, likewise
   abbrev pub CloseGoesOn : Rules → View S → List RosterEntry → List DayRow → Result (PerPool PoolClose) SettlementFault → Rules → View S → List LineEntry → Type 0
   CloseGoesOn r v roster rows a r' w lines' =
       (h : History) → Run m sound r h v → HandedIfTaken h.current roster rows a → Run m sound r' (after_close h (m.shown v.book) a lines') w
 
+  -- a release
   abbrev pub ReleaseGoesOn : Rules → View S → Result (Unit {0}) SettlementFault → Rules → View S → List LoadEntry → Type 0
   ReleaseGoesOn r v a r' w es' = (h : History) → Run m sound r h v → Run m sound r' (after_release h a es') w

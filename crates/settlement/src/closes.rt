@@ -51,9 +51,10 @@ impl<B: FundBook, G: AvailabilityRule, F: AvailabilityRule> Settlement<B, G, F> 
         Ok(pools)
     }
 
-    /// Closes the month: writes its lines, posts each pool's charges and payments, and answers them with the rates. Refused,
+    /// Closes the month: writes its lines, posts each pool's charges and payments, and answers them with the rates. Below four
+    /// free places the book is ruled off first, also if nothing is posted. After a December a release is due. Refused,
     /// whichever comes first: `UnfitTables` for tables or rows outside their limits, `OutOfTurn` where no month is open, and
-    /// `OverLimit` of a pool whose balance and charges together pass the book's limit, the generic pool first.
+    /// `OverLimit` of a pool whose shown balance and charges together pass `fund::LIMIT`, the generic pool first.
     pub fn close(
         &mut self,
         roster: &[RosterEntry],

@@ -87,7 +87,8 @@ impl fmt::Display for FaultPlace {
     }
 }
 
-/// By hand: contracts name the case that `?` makes, and a derived conversion has no contract.
+/// A book's fault as a settlement's.
+// By hand: contracts name the case that `?` makes, and a derived conversion has no contract.
 impl From<BookFault> for SettlementFault {
     ghost from_gives = { λ e r. r ≡ Book e };
 

@@ -9,8 +9,8 @@ use fund::Label;
 const LAYER: char = 'S';
 
 impl SettlementFault {
-    /// The label of a fault: its number, 10 to 20 but never 14, the letter S, and as its place the resource's day of a fault of
-    /// `record`. A book's fault keeps its own number, letter and pool.
+    /// The label of a fault: its number, 10 to 20 but never 14, the letter S, and as its place the resource's day for 16 to 20,
+    /// none for the others. A book's fault keeps its own number, letter and pool.
     pub fn label(self) -> Label<Option<FaultPlace>>
         ensures { result ≡ label self }
     {

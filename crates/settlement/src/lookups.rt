@@ -14,14 +14,14 @@ use pools::Pool;
 /// A pool's balances, in cents: what it held when the settlement was started, and what the book holds and shows now.
 #[derive(Clone, Copy, PartialEq, Eq, Debug)]
 pub struct PoolAccount {
-    /// The binding balance when the settlement was started, in cents, 0 to 7,000,000,000,000.
+    /// The binding balance when the settlement was started, in cents, 0 to `fund::LIMIT`.
     pub opening: u64,
     /// What the book holds and shows now, in cents.
     pub balances: Account,
 }
 
 impl<B: FundBook, G: AvailabilityRule, F: AvailabilityRule> Settlement<B, G, F> {
-    /// The balances of a pool; and what the accountant can show of every run that ends here.
+    /// The balances of a pool, in cents. The contract adds the accountant's law of every run that ends here.
     pub fn account(&self, pool: Pool) -> PoolAccount
         ensures opening { result.opening ≡ entry_of self.now.opening pool }
         ensures binding { result.balances.binding ≡ B.means.binding (B.state self.now.book) pool }

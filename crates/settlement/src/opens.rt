@@ -77,7 +77,8 @@ impl<B: FundBook, G: AvailabilityRule, F: AvailabilityRule> Settlement<B, G, F> 
     }
 
     /// Opens a month: every place of the day table is empty afterwards, and the book stands as the terms say. Roster and day
-    /// table belong to the caller, who hands them in with each call (docs/settlement.md). Refused, whichever comes first:
+    /// table belong to the caller. From here through the close each call is to get them as the last taken call left them: no
+    /// call tests this, and the law of `account` speaks of such runs only. Refused, whichever comes first:
     /// `UnfitTables`; `OutOfTurn` where another month is open, or a release comes first; `UnfitTerms`; `NotNextMonth`; and
     /// `NoAdvisoryMonths` of the book.
     pub fn open(

@@ -34,8 +34,8 @@ pub(crate) fn rate_for(price: Price, fund: u64, quantity: u128) -> Rate
     }
 }
 
-/// The eligible quantity of each line in W, 0 where it is not eligible, in a table of its own (docs/DECISIONS.md, Forms of
-/// code). Filled by place for the reason given beside `pay`.
+/// The eligible quantity of each line in W, 0 where it is not eligible, in a table of its own. Filled by place, as `pay` goes
+/// by place too.
 fn eligible_quantities(entries: &ArrayVec<LineEntry, MOST_RESOURCES>) -> [u64; MOST_RESOURCES]
     ensures eligible { (k : ℕ) → k < array_vec_len entries.now → slice_index result k ≡ line_tells EligibleQuantity (slice_index_or entries.now.items k no_line) }
     ensures others { (k : ℕ) → array_vec_len entries.now ≤ k → slice_index result k ≡ 0 }
@@ -47,8 +47,8 @@ fn eligible_quantities(entries: &ArrayVec<LineEntry, MOST_RESOURCES>) -> [u64; M
     quantities
 }
 
-/// Pays every eligible line at the rate, from a table of the eligible quantities. The place is counted: of lines written
-/// through a zip with that table nothing is known.
+/// Pays every eligible line at the rate, from a table of the eligible quantities. The place is counted: of what is written
+/// through a `zip` with `iter_mut` nothing is known.
 fn pay(entries: &mut ArrayVec<LineEntry, MOST_RESOURCES>, rate: Rate)
     requires { QuantitiesWithin entries.old.items }
     ensures { entries.new.items ≡ map (paid_entry rate.cents) entries.old.items }

@@ -26,7 +26,7 @@ fn breach_fault(breach: DayBreach, at: ResourceDay) -> SettlementFault
 }
 
 impl<B: FundBook, G: AvailabilityRule, F: AvailabilityRule> Settlement<B, G, F> {
-    /// Assesses the day by the two rules, writes its figures to the day's place of the day table, and answers them. Refused,
+    /// Assesses the day by the two rules, writes its figures to the day's place of the day table, and answers them, in W. Refused,
     /// whichever comes first: `UnfitTables`; `OutOfTurn` where no month is open; and of the day `UnknownResource`, `NoSuchDay`,
     /// `AlreadyRecorded`, `DayOverLimit` and `FlexibleInCategory0`.
     pub fn record(

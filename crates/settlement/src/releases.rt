@@ -75,7 +75,7 @@ impl Release {
         }
     }
 
-    /// Writes each entry's share of both balances, entry by entry with its index (docs/DECISIONS.md, Forms of code).
+    /// Writes each entry's share of both balances, entry by entry with its index.
     fn share_out(&self, loads: &mut [LoadEntry])
         requires { EachLoadWithin loads.old }
         ensures { loads.new ≡ map (shared self.now.balances.generic self.now.balances.flexible self.now.load) loads.old }
@@ -88,8 +88,8 @@ impl Release {
 
 impl<B: FundBook, G: AvailabilityRule, F: AvailabilityRule> Settlement<B, G, F> {
     /// Gives each load its share of both binding balances, and posts the shares out; what rounding leaves stays in the fund.
-    /// The book is stood binding first, so that the postings of an advisory December do not count. Refused: `OutOfTurn` where
-    /// no release is due, else `UnfitLoads` for load entries outside their limits.
+    /// The book is stood binding first, so that the postings of an advisory December do not count, and ruled off below two
+    /// free places. Refused: `OutOfTurn` where no release is due, else `UnfitLoads` for load entries outside their limits.
     pub fn release(&mut self, loads: &mut [LoadEntry]) -> Result<(), SettlementFault>
         ensures does { Releases B.means (view B.state self.old) loads.old result (view B.state self.new) loads.new }
         ensures same { OnErr result (self.new ≡ self.old) }

@@ -12,7 +12,7 @@ pub struct Settlement<B: FundBook, G: AvailabilityRule, F: AvailabilityRule> {
     pub(crate) book: B,
     /// The generic and the flexible rule, by which days and lines are worked out.
     pub(crate) rules: RulePair<G, F>,
-    /// Each pool's binding balance at the start, in cents, 0 to 7,000,000,000,000.
+    /// Each pool's binding balance at the start, in cents, 0 to `fund::LIMIT`.
     pub(crate) opening: PerPool<u64>,
     /// What is open, and what is due.
     pub(crate) stage: Stage,

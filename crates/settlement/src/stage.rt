@@ -7,7 +7,7 @@ use assessment::{MonthDate, MonthSettings};
 pub struct OpenMonth {
     /// The month, and what the calendar tells of it.
     pub settings: MonthSettings,
-    /// What the month's charged lines are charged.
+    /// Charged lines are charged at it, and three times it is the most that is paid; cents for a megawatt and month, 0 to 500,000.
     pub price: Price,
 }
 

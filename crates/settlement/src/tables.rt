@@ -49,7 +49,7 @@ pub struct SubmittedDay {
 pub struct LineEntry {
     /// A resource's month in one pool.
     pub line: Line,
-    /// Cents, 0 to 7,000,000,000,000 as a close writes them: the charge of a charged line, the payment of a paid one, else 0.
+    /// Cents, 0 to `fund::LIMIT` as a close writes them: the charge of a charged line, the payment of a paid one, else 0.
     pub cents: u64,
 }
 
@@ -75,10 +75,10 @@ pub struct LoadEntry {
 /// What a close comes to in a pool.
 #[derive(Clone, Copy, PartialEq, Eq, Debug)]
 pub struct PoolClose {
-    /// What its charged lines are charged, in cents, 0 to 7,000,000,000,000.
+    /// What its charged lines are charged, in cents, 0 to `fund::LIMIT`.
     pub charges: u64,
     /// Cents for a megawatt and month that eligible lines are paid, 0 to 1,500,000.
     pub rate: u64,
-    /// What its eligible lines are paid, in cents, 0 to 7,000,000,000,000: no more than shown balance and charges together.
+    /// What its eligible lines are paid, in cents, 0 to `fund::LIMIT`: no more than shown balance and charges together.
     pub payments: u64,
 }

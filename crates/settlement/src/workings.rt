@@ -50,7 +50,7 @@ impl MonthTables<'_> {
         ensures long { (p : Pool) → array_vec_len (entry_of result p) ≡ length self.now.roster.now }
         ensures small { (p : Pool) → QuantitiesWithin (entry_of result p).items }
     {
-        // Of a fixed size, since a close has no want of memory among its answers.
+        // An `ArrayVec`, so that a close asks for no memory: want of it is none of its answers.
         let mut entries = PerPool::of(|_| ArrayVec::new());
         let price = self.month.price;
         for (entry, rows) in self.roster.iter().zip(self.rows.chunks_exact(DAY_PLACES)) {

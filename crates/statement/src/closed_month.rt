@@ -6,7 +6,7 @@ use fund::Standing;
 use pools::PerPool;
 use settlement::{LineEntry, MonthTerms, PoolClose};
 
-/// A closed month: its settings and standing, two lines a resource, what each pool comes to, and the balance that it then shows.
+/// A closed month: its terms and standing, two lines a resource, what each pool comes to, and the balance that it then shows.
 #[derive(PartialEq, Eq, Debug, Drop)]
 pub(crate) struct ClosedMonth {
     /// What it was opened with.

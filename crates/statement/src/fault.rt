@@ -43,7 +43,8 @@ pub struct Located<F> {
     pub offset: usize,
 }
 
-/// This conversion and the next are by hand: contracts name the case that `?` makes, and a derived one has no contract.
+/// A fault of what reads the file.
+// By hand, as the next: contracts name the case that `?` makes, and a derived conversion has no contract.
 impl From<ReaderFault> for StatementFault {
     ghost from_gives = { λ e r. r ≡ Reader e };
 
@@ -52,6 +53,7 @@ impl From<ReaderFault> for StatementFault {
     }
 }
 
+/// A fault of the settlement.
 impl From<SettlementFault> for StatementFault {
     ghost from_gives = { λ e r. r ≡ Settlement e };
 

@@ -49,7 +49,8 @@ fn print_month(heap: Global, month: &ClosedMonth) -> Result<Vec<u8>, AllocError>
     Ok(out)
 }
 
-/// The statement of a month file, as bytes; else the refusal of its first fault, or the want of memory, which is taken from `heap`.
+/// The statement of a month file, as bytes, or the refusal of its first fault. Memory is taken from `heap`; where it runs out the answer
+/// is `OutOfMemory`.
 #[tactic(auto, using(crate::proofs::Outputs::laws, crate::proofs::Outputs::refused_by, crate::proofs::Outputs::settled_begun), unfolding(crate::specs::Printing::output, crate::specs::Printing::is_settled))]
 pub fn settle_file(heap: Global, file: &[u8]) -> Result<Vec<u8>, NoStatement>
     ensures settled { IfOk result (λ v. (is_settled file.now ≡ true) × (v.items ≡ output file.now)) }

@@ -5,7 +5,7 @@ ghost use Rattle.statement.specs.Faults.{label};
 use crate::fault::{Located, ReaderFault, StatementFault};
 use fund::Label;
 
-/// The letter of this layer. Each layer names its own, so that no layer below knows of this one.
+/// The letter of this layer.
 const LAYER: char = 'R';
 
 impl Located<StatementFault> {

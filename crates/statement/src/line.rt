@@ -1,4 +1,4 @@
-//! A printed line: of 96 bytes the first `len` are written, the others are 0, as docs/DECISIONS.md (Forms of code) has it.
+//! A printed line: of 96 bytes the first `len` are written, and the others are 0.
 //! It takes nothing from the heap, so that a refusal is printed also where no memory is left.
 ghost use Rattle.std.specs.Prelude.{◌≡◌, ℕ, ◌≤◌, List, take, slice_index, Some};
 ghost use Rattle.statement.specs.declared.line.TheConstants.{LINE_BYTES};
@@ -8,7 +8,7 @@ use std::{fmt, str};
 
 mod puts;
 
-/// How many bytes a line has room for; the longest of a statement is shorter.
+/// How many bytes a line has room for. A number counts as the longest of its type, so a POOL line asks for 91 of them.
 pub(crate) const LINE_BYTES: usize = 96;
 
 /// A line as far as it is written. One that is empty prints nothing.

@@ -32,7 +32,8 @@ impl fmt::Display for NoStatement {
 
 impl Error for NoStatement {}
 
-/// This conversion and the next are by hand: contracts name the case that `?` makes, and a derived one has no contract.
+/// A fault told at its byte offset is a refusal.
+// By hand, as the next: contracts name the case that `?` makes, and a derived conversion has no contract.
 impl<F> From<Located<F>> for NoStatement
 where
     StatementFault: From<F>,
@@ -45,6 +46,7 @@ where
     }
 }
 
+/// A failed allocation is the want of memory.
 impl From<AllocError> for NoStatement {
     ghost from_gives = { λ _ r. r ≡ OutOfMemory };
 

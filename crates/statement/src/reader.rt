@@ -29,8 +29,7 @@ const HOUR_WORDS: usize = 4;
 const BID_WORDS: usize = HOUR_WORDS * HOURS;
 
 /// The words that the bytes begin with; a file that has fewer ends inside its record (40).
-/// Made by place, here and in `hours`: a `map` over an array asks that an iterator over its N elements fits in memory, which is not so of
-/// every N, and in `hours`, where it is so, a file takes a quarter more instructions with it.
+// By place, here and in `hours`, as docs/DECISIONS.md says.
 fn words<const N: usize>(bytes: &[u8]) -> Result<[u32; N], ReaderFault>
     ensures { MatchResult result (λ ws. (4 * N ≤ length bytes.now) × (ws ≡ words_of N bytes.now)) (λ e. (length bytes.now < 4 * N) × (e ≡ EndsInside)) }
 {
@@ -48,7 +47,8 @@ fn hours(bids: &[u32; BID_WORDS]) -> [HourBids; HOURS]
     array::from_fn(|hour| HourBids::from(hours[hour]))
 }
 
-/// Here and below, `within`: a record with its first word, 4 bytes, takes no more than there are.
+// Here and below, `within`: a record with its first word, 4 bytes, takes no more than there are.
+/// The month record, from the bytes after its first word; cut short, 40.
 #[tactic(auto, unfolding(crate::specs::Layout::month_of, crate::specs::Layout::words_of))]
 fn read_month(rest: &[u8]) -> Result<FileRecord, ReaderFault>
     ensures value { result ≡ month_of rest.now }
@@ -125,8 +125,8 @@ fn read_day(rest: &[u8]) -> Result<FileRecord, ReaderFault>
     }))
 }
 
-/// The record that the bytes begin with: its first word tells its kind, by a slice pattern as docs/DECISIONS.md (Forms of code)
-/// has it. Refuses bytes that end inside the record (40), and a kind that is none (41).
+/// The record that the bytes begin with: its first word tells its kind. Refused, whichever comes first: fewer than 4 bytes (40);
+/// a kind that is none, however few bytes follow (41); a record cut short (40).
 pub fn next_record(bytes: &[u8]) -> Result<FileRecord, ReaderFault>
     ensures value { result ≡ record_of bytes.now }
     ensures within { IfOk result (λ x. size_of x ≤ length bytes.now) }

@@ -6,7 +6,7 @@ use settlement::{MonthTerms, RosterEntry, SubmittedDay};
 pub struct NumberedResource {
     /// Its number, counted from 0; where another number is due, the record is refused (43).
     pub number: u32,
-    /// Its category and identifier; a category above 3 is refused (10), but only after a wrong number.
+    /// Its category and identifier. A category above 3 is refused (10); a wrong number is refused first.
     pub entry: RosterEntry,
 }
 

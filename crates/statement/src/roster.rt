@@ -18,7 +18,7 @@ pub(crate) struct Roster {
     entries: Vec<RosterEntry>,
 }
 
-/// Contracts see the resources. There is always room for 64, so that only a 65th is refused.
+/// Contracts see the resources. There is always room for 64, so that adding one never asks for memory.
 impl Model for Roster {
     ghost Value = { List RosterEntry };
 

@@ -1,5 +1,4 @@
 //! The lines of a statement, and the line of a refusal. Each ends in a line feed.
-//! They are put together byte by byte: `write!` promises its text only where it succeeds, and nothing shows that it does.
 ghost use Rattle.std.specs.Prelude.{◌≡◌, ◌+◌, ◌<◌, ◌≤◌, ◌++◌, length};
 ghost use Rattle.pools.specs.PerPool.{entry_of};
 ghost use Rattle.statement.specs.Rows.{two_digits, header_row, line_row, pool_row, refusal_row};
@@ -86,7 +85,7 @@ pub fn refusal_row(fault: Located<StatementFault>) -> PrintedLine
     line.put_text(b"REFUSED ");
     line.put_decimal(label.number);
     line.put_byte(b' ');
-    // A char, as `{}` prints a u8 as a number; the letter, R, S or B, has one byte.
+    // The letter, R, S or B, is one byte, so this does not fail.
     line.put_byte(u8::try_from(label.layer).unwrap());
     line.put_byte(b' ');
     line.put_decimal(label.place);

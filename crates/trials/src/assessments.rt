@@ -66,7 +66,7 @@ fn month_limits(rt: HostRuntime) {
     }
 }
 
-// What is broken by a day of this category; None where it is taken, or where there is no such day or category.
+/// What is broken by a day of this category; None where it is taken, or where there is no such day or category.
 fn breach(category: u32, submission: DaySubmission) -> Option<DayBreach> {
     let monday = MonthSettings::new(JUNE)?.day(4)?;
     let category = Category::try_from(category).ok()?;
@@ -139,7 +139,7 @@ fn row(obligation: u32, availability: u32) -> DayRow {
     })
 }
 
-// The letter and quantity of the generic line of one recorded day in June 2018; None where it is refused.
+/// The letter and quantity of the generic line of one recorded day in June 2018; None where it is refused.
 fn generic_line(day: DayRow) -> Option<(u8, u64)> {
     let june = MonthSettings::new(JUNE)?;
     let category = Category::try_from(0).ok()?;

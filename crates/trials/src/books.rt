@@ -111,7 +111,7 @@ fn every_book_keeps_the_limit(rt: HostRuntime) -> Result<(), Fail> {
     limit_to_the_cent(&rt, &mut overlay)
 }
 
-// There and back over any book that takes advisory months, with 100 in the generic pool.
+/// There and back over any book that takes advisory months, with 100 in the generic pool.
 fn an_advisory_month<B: FundBook>(rt: &impl Abort, book: &mut B) -> Result<(), Fail> {
     let pool = Pool::Generic;
     book.post_in(pool, 100)?;

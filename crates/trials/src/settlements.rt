@@ -30,7 +30,7 @@ fn terms(year: u32, month: u32, standing: u32) -> MonthTerms {
     }
 }
 
-// 100 MW shown as generic capacity, and this much of it bid in every hour of both markets.
+/// 100 MW shown as generic capacity, and this much of it bid in every hour of both markets.
 fn hundred_megawatts(economic: u32) -> DaySubmission {
     let bid = Bid {
         economic,
@@ -54,7 +54,7 @@ fn hundred_megawatts(economic: u32) -> DaySubmission {
 
 type Desk = Settlement<Overlay<BalanceBook>, GenericRule, FlexibleRule>;
 
-// Opens the month, records both resources on a day, and closes it: what it comes to in the generic pool.
+/// Opens the month, records both resources on a day, and closes it: what it comes to in the generic pool.
 fn settle(desk: &mut Desk, month: &MonthTerms, day: u32) -> Option<PoolClose> {
     let mut rows = [None; DAY_PLACES * ROSTER.len()];
     let mut lines = [LineEntry::default(); LINES * ROSTER.len()];

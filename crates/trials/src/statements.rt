@@ -3,13 +3,13 @@ use statement::{NoStatement, refusal_row, settle_file};
 use std::process::Abort;
 use std::test::Fail;
 
-// June 2018 without marks, windows from 14, 16 and 16, binding, price 379,000.
+/// June 2018 without marks, windows from 14, 16 and 16, binding, price 379,000.
 const JUNE: [u8; 36] = [
     0, 0, 0, 1, 0, 0, 7, 226, 0, 0, 0, 6, 0, 0, 0, 0, 0, 0, 0, 14, 0, 0, 0, 16, 0, 0, 0, 16, 0, 0,
     0, 0, 0, 5, 200, 120,
 ];
 
-// Ok with the bytes of a statement, or Err with the line of a refusal.
+/// Ok with the bytes of a statement, or Err with the line of a refusal.
 fn gives(
     rt: &(impl Abort + AllocGlobal),
     file: &[u8],

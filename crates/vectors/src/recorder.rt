@@ -37,6 +37,7 @@ impl Print for Recorder {
     }
 
     fn write_all(&self, _bytes: &[u8]) -> io::Result<()> {
+        // A script prints text alone; bytes would have to be kept here too.
         Err(ErrorKind::Unsupported.into())
     }
 }

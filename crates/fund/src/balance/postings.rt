@@ -17,7 +17,7 @@ impl Balance {
         Balance { cents }
     }
 
-    /// Its cents, 0 to 7,000,000,000,000.
+    /// Its cents, 0 to `LIMIT`.
     pub(crate) fn cents(self) -> u64
         ensures value { result ≡ self.cents }
         ensures within { result ≤ limit }

@@ -74,7 +74,7 @@ impl Journal {
         Ok(())
     }
 
-    /// Writes a posting into the first free place. The caller has made sure that there is one.
+    /// Writes a posting into the first free place. The caller has made sure that there is one, and that the balance allows the amount.
     fn write(&mut self, direction: Direction, pool: Pool, amount: u64)
         requires { PagesSound (with_posting (pages_of self.old) (posting direction pool amount)) }
         ensures { pages_of self.new ≡ with_posting (pages_of self.old) (posting direction pool amount) }
