@@ -2,7 +2,6 @@ pub mod Pools
 pub mod Arrays
 pub mod Deciding
 pub mod Running
-pub mod Spans
 pub mod Hourly
 pub mod Watts
 pub mod Daily

@@ -1,8 +1,8 @@
 -- One step more of a sum over 1 to n.
-use Rattle.std.proofs.Common.{◌≡◌, ℕ, zero, suc, ◌+◌, ◌*◌, ◌≤◌, Bool, cond, ◌||◌, ltb, sum_by, count_by, filter, length, List, [], ◌∷◌, ◌∙◌, sym, refl, ap, add-zero, mul-add, add-one, arith}
+use Rattle.std.proofs.Common.{◌≡◌, ℕ, zero, suc, ◌+◌, ◌*◌, ◌≤◌, Bool, cond, ◌||◌, ltb, sum_by, count_by, List, [], ◌∷◌, ◌∙◌, sym, refl, ap, add-zero, mul-add, add-one, arith}
 use Rattle.std.proofs.lemmas.Bool.Decides.{nat_tests}
 use Rattle.std.specs.List.{range_with_len, list_any}
-use Rattle.std.proofs.lemmas.List.Sums.{sum_by-cons, length-filter}
+use Rattle.std.proofs.lemmas.List.Sums.{sum_by-cons}
 use Rattle.assessment.specs.Calendar.{days_of}
 use Rattle.assessment.specs.declared.settings.MonthSettings.{MonthSettings}
 use Rattle.assessment.specs.Sums.{sum_to, count_to}
@@ -35,9 +35,13 @@ count_listed p n =
     let from_none : 0 + n ≡ n = omega arith in
     omega (arith, sum_listed (λ i. cond (p i) 1 0) 0 n, sum_none (λ i. cond (p i) 1 0), ap (count_to p) from_none)
 
+-- 1 where the test is passed
+abbrev pub one : (ℕ → Bool) → ℕ → ℕ
+one p d = cond (p d) 1 0
+
 -- the days of a month that pass a test
-pub days_counted : (p : ℕ → Bool) (s : MonthSettings) (n : ℕ) → n ≡ length (filter p (range_with_len 1 s.days)) → n ≡ count_to p (days_of s.month)
-days_counted p s n is = is ∙ length-filter p (range_with_len 1 s.days) ∙ count_listed p s.days ∙ ap (count_to p) s.days_are
+pub days_summed : (p : ℕ → Bool) (s : MonthSettings) (n : ℕ) → n ≡ sum_by (one p) (range_with_len 1 s.days) → n ≡ count_to p (days_of s.month)
+days_summed p s n is = is ∙ count_listed p s.days ∙ ap (count_to p) s.days_are
 
 pub any_listed : (p : ℕ → Bool) (n : ℕ) → list_any p (range_with_len 1 n) ≡ ltb 0 (count_to p n)
 any_listed p n = any_counted p (range_with_len 1 n) ∙ ap (ltb 0) (count_listed p n)

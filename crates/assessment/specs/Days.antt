@@ -10,7 +10,7 @@ use Rattle.assessment.specs.declared.submission.Bid.{Bid}
 use Rattle.assessment.specs.declared.submission.HourBids.{HourBids}
 use Rattle.assessment.specs.declared.submission.Showing.{Showing}
 use Rattle.assessment.specs.declared.submission.DaySubmission.{DaySubmission}
-use Rattle.assessment.specs.declared.day_record.DayRecord.{DayRecord}
+use Rattle.assessment.specs.declared.day_record.DatedRecord.{DatedRecord}
 use Rattle.assessment.specs.Figures.{PoolFigures, DayFigures}
 
 -- the rules of the two pools
@@ -30,12 +30,12 @@ pub record DayCase : Type 0 where
   pub submission : DaySubmission
 
 -- the same of a day that the code has checked
-abbrev pub day_case : DayRecord → DayCase
+abbrev pub day_case : DatedRecord → DayCase
 day_case d = record {
   month = d.day.settings.month;
-  category = d.category.number;
+  category = d.record.category.number;
   day = d.day.day;
-  submission = d.submission;
+  submission = d.record.submission;
 }
 
 -- net showing: showing less exemption

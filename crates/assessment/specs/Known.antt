@@ -1,6 +1,6 @@
 -- Figures known from outside, each beside the same figure worked out by the definitions.
 use Rattle.std.specs.Prelude.{◌≡◌, ℕ, Bool, true, ◌&&◌, List, [], ◌∷◌, replicate, ◌==◌}
-use Rattle.assessment.specs.Calendar.{work_days}
+use Rattle.assessment.specs.Calendar.{days_of, weekday_of, work_days}
 use Rattle.assessment.specs.Rules.{generic_rule, flexible_rule}
 use Rattle.assessment.specs.Days.{both, day_figures}
 use Rattle.assessment.specs.Lines.{line_of, letter}
@@ -46,10 +46,12 @@ pub record Known : Type 0 where
 abbrev pub known : ℕ → ℕ → Known
 known worked figure = record { worked = worked; figure = figure }
 
--- the work days of June 2018, the overlapping day, and a line's states at its bounds
+-- June 2018's days, the weekday of its first (5 is Friday) and its work days, the overlapping day, and a line's states at its bounds
 abbrev pub known_figures : List Known
 known_figures =
-    known (work_days june_2018) 21
+    known (days_of june_2018) 30
+    ∷ known (weekday_of june_2018 1) 5
+    ∷ known (work_days june_2018) 21
     ∷ known overlapping_day.generic.obligation 1166666
     ∷ known overlapping_day.flexible.obligation 833333
     ∷ known overlapping_day.generic.availability 833333

@@ -60,10 +60,9 @@ impl MonthSettings {
         ensures is { result ≡ work_days self.now.month }
         ensures few { result ≤ 31 }
     {
-        // `as` loses nothing: the count is at most 31.
-        (1..=self.days)
-            .filter(|day| self.trade_day(*day).kind == DayKind::WorkDay)
-            .count() as u32
+        (1..self.days + 1)
+            .map(|day| u32::from(self.trade_day(day).kind == DayKind::WorkDay))
+            .sum()
     }
 
     /// A day of the month, with its kind.
@@ -75,7 +74,8 @@ impl MonthSettings {
     {
         let weekday = (self.first_weekday + day - 1) % 7;
         let marked = (self.month.holidays >> (day - 1)) % 2 == 1;
-        let kind = if (1..=5).contains(&weekday) && !marked {
+        // Two comparisons, for the reason of `in_window`.
+        let kind = if 1 <= weekday && weekday <= 5 && !marked {
             DayKind::WorkDay
         } else {
             DayKind::OffDay

@@ -4,7 +4,6 @@ ghost use Rattle.assessment.specs.Records.{HourWithin, ShowingWithin, ShowingsWi
 
 use crate::category::Category;
 use crate::day_record::DayRecord;
-use crate::settings::TradeDay;
 use crate::submission::{Bid, DayBreach, DaySubmission, HourBids, Showing};
 use pools::Pool;
 
@@ -54,12 +53,8 @@ fn exemptions_within(submission: &DaySubmission) -> bool
 impl DayRecord {
     /// The day of a resource of this category, or the first limit that it breaks, in the order of `DayBreach`.
     /// All 24 hours are tested, whether assessed or not.
-    pub fn new(
-        day: TradeDay,
-        category: Category,
-        submission: &DaySubmission,
-    ) -> Result<DayRecord, DayBreach>
-        ensures { MatchResult result (λ d. (d.day ≡ day) × (d.category ≡ category) × (d.submission ≡ submission.now)) (Breaks category.number submission.now) }
+    pub fn new(category: Category, submission: &DaySubmission) -> Result<DayRecord, DayBreach>
+        ensures { MatchResult result (λ d. (d.submission ≡ submission.now) × (d.category ≡ category)) (Breaks category.number submission.now) }
     {
         if !showings_within(submission) || !bids_within(submission) {
             return Err(DayBreach::KilowattsOverLimit);
@@ -71,7 +66,6 @@ impl DayRecord {
             return Err(DayBreach::FlexibleInCategory0);
         }
         Ok(DayRecord {
-            day,
             category,
             submission: *submission,
         })

@@ -6,7 +6,7 @@ ghost use Rattle.assessment.specs.Lines.{PoolWithin};
 ghost use Rattle.assessment.specs.Pairs.{rules_of};
 ghost use Rattle.assessment.specs.Totals.{totals_of};
 
-use crate::day_record::{DayRecord, LargerNet};
+use crate::day_record::{DatedRecord, LargerNet};
 use crate::day_result::{DayFigures, DayResult, PoolFigures};
 use crate::rule::AvailabilityRule;
 use crate::rule_pair::RulePair;
@@ -50,13 +50,13 @@ fn pool_day(own: PoolTotals, other: PoolTotals, largest: LargerNet) -> PoolFigur
 
 impl<G: AvailabilityRule, F: AvailabilityRule> RulePair<G, F> {
     /// The day's result under the two rules, in W; a pool without an assessed hour has zeros.
-    pub fn assess_day(&self, submitted: &DayRecord) -> DayResult
+    pub fn assess_day(&self, submitted: &DatedRecord) -> DayResult
         ensures is { result.figures ≡ day_figures (rules_of G.means F.means self.now) (day_case submitted.now) }
         ensures law { DayLaw (rules_of G.means F.means self.now) (day_case submitted.now) }
         ensures little_lost { LittleLost (rules_of G.means F.means self.now) (day_case submitted.now) }
     {
         let totals = self.assess_hours(submitted);
-        let largest = submitted.larger_net();
+        let largest = submitted.record.larger_net();
         // A pool's own totals come first: each is weighed with the other's.
         DayResult {
             figures: DayFigures {

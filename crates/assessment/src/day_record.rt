@@ -1,4 +1,4 @@
-//! A day of a month, and what a resource submits for it, within its limits.
+//! What a resource submits for a day, within its limits, and the day of its month that it is for.
 ghost use Rattle.std.specs.Prelude.{◌≤◌};
 ghost use Rattle.assessment.specs.Records.{ShowingsWithin, BidsWithin, ExemptionsWithin, FlexibleAllowed};
 
@@ -10,9 +10,7 @@ use pools::Pool;
 /// A resource's day within every limit of a submission. `DayRecord::new` makes it.
 #[derive(Clone, Copy, PartialEq, Eq, Debug)]
 pub struct DayRecord {
-    /// The day that is assessed, with its month.
-    pub day: TradeDay,
-    /// The resource's category in that month.
+    /// The resource's category in the month of the day.
     pub category: Category,
     /// Showings, exemptions and bids, each 0 to 2,000,000 kW; no exemption above its showing; in category 0 no flexible showing.
     pub submission: DaySubmission,
@@ -20,6 +18,15 @@ pub struct DayRecord {
     ghost bids: { BidsWithin submission },
     ghost exemptions: { ExemptionsWithin submission },
     ghost flexible: { FlexibleAllowed category.number submission },
+}
+
+/// A day record, on the day of its month that is assessed.
+#[derive(Clone, Copy, PartialEq, Eq, Debug)]
+pub struct DatedRecord {
+    /// The day that is assessed, with its month.
+    pub day: TradeDay,
+    /// What the resource submits for it.
+    pub record: DayRecord,
 }
 
 /// The larger of a day's two net showings.

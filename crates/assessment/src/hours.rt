@@ -6,7 +6,7 @@ ghost use Rattle.pools.specs.PerPool.{entry_of};
 ghost use Rattle.pools.specs.declared.pool.Pool.{Pool};
 ghost use Rattle.assessment.specs.Totals.{totals_of};
 
-use crate::day_record::DayRecord;
+use crate::day_record::DatedRecord;
 use crate::rule::AvailabilityRule;
 use crate::rule_pair::RulePair;
 use crate::submission::{Bid, HourBids};
@@ -55,7 +55,7 @@ impl<G: AvailabilityRule, F: AvailabilityRule> RulePair<G, F> {
 
     /// What each pool owes in the hour, in kW; None where its rule does not assess it. Where
     /// both do, the flexible showing is owed once, in its own pool.
-    fn due_in(&self, submitted: &DayRecord, hour: u32) -> PerPool<Option<u32>>
+    fn due_in(&self, submitted: &DatedRecord, hour: u32) -> PerPool<Option<u32>>
         ensures generic_in { is_some result.generic ≡ generic_in (rules_of G.means F.means self.now) (day_case submitted.now) hour }
         ensures flexible_in { is_some result.flexible ≡ flexible_in (rules_of G.means F.means self.now) (day_case submitted.now) hour }
         ensures generic_is { unwrap_or result.generic 0 ≡ generic_due (rules_of G.means F.means self.now) (day_case submitted.now) hour }
@@ -64,17 +64,22 @@ impl<G: AvailabilityRule, F: AvailabilityRule> RulePair<G, F> {
     {
         let flexible = self
             .flexible
-            .assesses(&submitted.day, submitted.category, hour)
-            .then(|| submitted.net(Pool::Flexible));
+            .assesses(&submitted.day, submitted.record.category, hour)
+            .then(|| submitted.record.net(Pool::Flexible));
         let first = flexible.unwrap_or(0);
         let generic = self
             .generic
-            .assesses(&submitted.day, submitted.category, hour)
-            .then(|| submitted.net(Pool::Generic).saturating_sub(first));
+            .assesses(&submitted.day, submitted.record.category, hour)
+            .then(|| submitted.record.net(Pool::Generic).saturating_sub(first));
         PerPool { generic, flexible }
     }
 
-    fn assess_hour(&self, submitted: &DayRecord, hour: u32, bids: &HourBids) -> PerPool<PoolTotals>
+    fn assess_hour(
+        &self,
+        submitted: &DatedRecord,
+        hour: u32,
+        bids: &HourBids,
+    ) -> PerPool<PoolTotals>
         ensures { (p : Pool) → totals_of (entry_of result p) ≡ hour_of (rules_of G.means F.means self.now) (day_case submitted.now) p bids.now hour }
     {
         let due = self.due_in(submitted, hour);
@@ -89,11 +94,11 @@ impl<G: AvailabilityRule, F: AvailabilityRule> RulePair<G, F> {
     }
 
     /// The day's totals: each pool over its 24 hours.
-    pub(crate) fn assess_hours(&self, submitted: &DayRecord) -> PerPool<PoolTotals>
+    pub(crate) fn assess_hours(&self, submitted: &DatedRecord) -> PerPool<PoolTotals>
         ensures { (p : Pool) → totals_of (entry_of result p) ≡ hours_to (rules_of G.means F.means self.now) (day_case submitted.now) p 24 }
     {
         let mut totals: PerPool<PoolTotals> = PerPool::default();
-        for (hour, bids) in (1..).zip(&submitted.submission.hours) {
+        for (hour, bids) in (1..).zip(&submitted.record.submission.hours) {
             let in_hour = self.assess_hour(submitted, hour, bids);
             totals = PerPool::of(|pool| totals.get(pool) + in_hour.get(pool));
         }

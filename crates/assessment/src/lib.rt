@@ -26,7 +26,7 @@ pub mod trade_month;
 mod window;
 
 pub use category::Category;
-pub use day_record::DayRecord;
+pub use day_record::{DatedRecord, DayRecord};
 pub use day_result::{DAY_PLACES, DayFigures, DayResult, DayRow, Figures, PoolFigures, Watts};
 pub use flexible_rule::FlexibleRule;
 pub use generic_rule::GenericRule;

@@ -20,16 +20,17 @@ const LAST_HOUR: u32 = HOURS as u32;
 fn rule_has_hours<R: AvailabilityRule>(rule: &R, day: &TradeDay, category: Category) -> bool
     ensures { result ≡ has_hours (R.means rule.now) day.now.settings.month category.number day.now.day }
 {
-    (1..=LAST_HOUR).any(|hour| rule.assesses(day, category, hour))
+    // Half-open, as are the days below: an inclusive range asks at each step whether it is spent.
+    (1..LAST_HOUR + 1).any(|hour| rule.assesses(day, category, hour))
 }
 
 fn days_assessed<R: AvailabilityRule>(rule: &R, settings: &MonthSettings, category: Category) -> u32
     ensures { result ≡ assessed_days (R.means rule.now) settings.now.month category.number }
 {
-    // `as` loses nothing: the count is at most 31.
-    (1..=settings.days)
-        .filter(|day| rule_has_hours(rule, &settings.trade_day(*day), category))
-        .count() as u32
+    // A sum of zeros and ones: `filter` with `count` would branch at each day.
+    (1..settings.days + 1)
+        .map(|day| u32::from(rule_has_hours(rule, &settings.trade_day(day), category)))
+        .sum()
 }
 
 /// Watts of a pool, summed over days of a month: at most 62,000,000,000, so that a line's products fit 64 bits.

@@ -32,7 +32,8 @@ impl DayResult {
         ensures { MatchOption result (RowWithin row → ⊥) (λ d. d.figures ≡ figures_in row) }
     {
         let figures = row.unwrap_or_default();
-        if !each_within(&figures) {
+        // The zeros of an empty place need no test.
+        if row.is_some() && !each_within(&figures) {
             return None;
         }
         Some(DayResult { figures })

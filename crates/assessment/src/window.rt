@@ -9,5 +9,6 @@ pub(crate) fn in_window(start: u32, hour: u32) -> bool
     requires { start ≤ 20 }
     ensures { result ≡ in_window start hour }
 {
-    (start..start + WINDOW_HOURS).contains(&hour)
+    // Two comparisons: by `contains` a count of hours and days takes more than twice the instructions.
+    start <= hour && hour < start + WINDOW_HOURS
 }

@@ -15,14 +15,14 @@ mod refusal;
 mod report;
 mod stretch;
 
-use anyhow::ensure;
 use comparison::Tally;
 use day_examples::DAY_EXAMPLES;
 use month_examples::MONTH_EXAMPLES;
 use report::{HEAD, report};
+use std::io;
 
 /// Prints every example and a last line of counts; an error where a figure differs.
-fn run(rt: &(impl Print + AllocGlobal)) -> anyhow::Result<()> {
+fn run(rt: &(impl Print + AllocGlobal)) -> io::Result<()> {
     rt.println(HEAD)?;
     let tally = report(rt, &DAY_EXAMPLES, Tally::default())?;
     let tally = report(rt, &MONTH_EXAMPLES, tally)?;
@@ -34,10 +34,12 @@ fn run(rt: &(impl Print + AllocGlobal)) -> anyhow::Result<()> {
     println!(rt;
         "{compared} figures compared, {agreeing} agree; {published} of them were published"
     )?;
-    ensure!(agreeing == compared, "some figures differ");
+    if agreeing < compared {
+        return Err(io::Error::other("some figures differ"));
+    }
     Ok(())
 }
 
-fn main(rt: HostRuntime) -> anyhow::Result<()> {
+fn main(rt: HostRuntime) -> io::Result<()> {
     run(&rt)
 }

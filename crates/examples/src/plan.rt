@@ -7,8 +7,8 @@ use crate::example::Case;
 use crate::reading::DayReading;
 use crate::refusal::Refusal;
 use assessment::{
-    Bid, Category, DayFigures, DayRecord, DayResult, DaySubmission, HOURS, HourBids, MonthSettings,
-    SHIPPED_RULES, Showing,
+    Bid, Category, DatedRecord, DayFigures, DayRecord, DayResult, DaySubmission, HOURS, HourBids,
+    MonthSettings, SHIPPED_RULES, Showing,
 };
 use pools::PerPool;
 use std::array;
@@ -96,11 +96,11 @@ impl PlannedDay {
     pub(crate) fn assess(&self, settings: &MonthSettings) -> Result<DayResult, Refusal>
         ensures { MatchResult result (λ d. d.figures ≡ planned settings.now.month self.now.day self.now.plan) (DayRefused settings.now.month self.now.day self.now.plan) }
     {
-        let trade_day = settings.day(self.day).ok_or(Refusal::NoSuchDay)?;
+        let day = settings.day(self.day).ok_or(Refusal::NoSuchDay)?;
         let category = category_of(self.plan.category)?;
         let submission = self.plan.submission();
-        let submitted = DayRecord::new(trade_day, category, &submission)?;
-        Ok(SHIPPED_RULES.assess_day(&submitted))
+        let record = DayRecord::new(category, &submission)?;
+        Ok(SHIPPED_RULES.assess_day(&DatedRecord { day, record }))
     }
 }
 

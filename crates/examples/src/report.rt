@@ -5,6 +5,7 @@ use crate::measure::Amount;
 use crate::reading::{Part, Reading};
 use crate::refusal::Refusal;
 use assessment::MonthSettings;
+use std::io;
 
 /// The heads of the columns.
 pub const HEAD: &str =
@@ -16,7 +17,7 @@ fn report_check<R: Reading>(
     worked: &R::Worked,
     check: &Check<R>,
     tally: Tally,
-) -> anyhow::Result<Tally> {
+) -> io::Result<Tally> {
     let comparison = check.compare(worked)?;
     let part: Part = check.part.into();
     let name = check.reading.name(worked, check.part);
@@ -40,7 +41,7 @@ pub(crate) fn report<C: Case<R>, R: Reading>(
     rt: &(impl Print + AllocGlobal),
     examples: &[Example<C, R>],
     mut tally: Tally,
-) -> anyhow::Result<Tally> {
+) -> io::Result<Tally> {
     for example in examples {
         rt.println(example.name)?;
         let settings = MonthSettings::new(example.month).ok_or(Refusal::NoSuchMonth)?;

@@ -1,7 +1,7 @@
 //! What is printed: the answer to each call, and the line about the fund.
 //! Each function fails only where the output cannot be written.
 use assessment::{AvailabilityRule, DayFigures};
-use fund::{Account, FundBook};
+use fund::FundBook;
 use pools::{PerPool, Pool};
 use settlement::{LINES, LineEntry, LoadEntry, PoolClose, Settlement, SettlementFault, pool_at};
 use std::io;
@@ -76,10 +76,18 @@ pub(crate) fn fund<B: FundBook, G: AvailabilityRule, F: AvailabilityRule>(
     rt: &impl Print,
     settlement: &Settlement<B, G, F>,
 ) -> io::Result<()> {
-    print!(rt; "FUND {}", settlement.standing())?;
-    for pool in Pool::ALL {
-        let Account { binding, shown } = settlement.account(pool).balances;
-        print!(rt; " {pool} {binding} {shown}")?;
-    }
-    println!(rt; " FREE {}", settlement.free_places())
+    let generic = settlement.account(Pool::Generic).balances;
+    let flexible = settlement.account(Pool::Flexible).balances;
+    // In one print, since each is a write of its own.
+    println!(rt;
+        "FUND {} {} {} {} {} {} {} FREE {}",
+        settlement.standing(),
+        Pool::Generic,
+        generic.binding,
+        generic.shown,
+        Pool::Flexible,
+        flexible.binding,
+        flexible.shown,
+        settlement.free_places()
+    )
 }

@@ -6,7 +6,7 @@ ghost use Rattle.scripts.specs.Numbers.{Decimal, number};
 use crate::line_fault::LineFault;
 use std::alloc::Global;
 
-/// Whether a word is digits alone, at least one. `parse` alone takes a sign too.
+/// Whether a word is digits alone, at least one.
 fn is_digits(word: &str) -> bool
     ensures { IsTrue result ↔ (all_ascii_digits word.now ≡ true) × (0 < length word.now) }
 {
@@ -17,10 +17,16 @@ fn is_digits(word: &str) -> bool
 pub(crate) fn wide_number(word: &str, at: usize) -> Result<u64, LineFault>
     ensures { MatchResult result (λ n. Decimal 64 word.now × (n ≡ number word.now)) (λ _. Decimal 64 word.now → ⊥) }
 {
-    if !is_digits(word) {
+    // `parse` takes a plus sign too.
+    if let [b'+', ..] = word.as_bytes() {
         return Err(LineFault::NoNumber(at));
     }
-    word.parse().map_err(|_| LineFault::TooLarge(at))
+    // Only a word without a number is read a second time, for why it has none.
+    match word.parse() {
+        Ok(number) => Ok(number),
+        Err(_) if is_digits(word) => Err(LineFault::TooLarge(at)),
+        Err(_) => Err(LineFault::NoNumber(at)),
+    }
 }
 
 /// As `wide_number`, narrowed to 32 bits.

@@ -1,7 +1,7 @@
 //! Reads a month file from standard input, and writes its statement, or its refusal, to standard output.
 #![tactic(auto)]
 
-use statement::{NoStatement, settle_file};
+use statement::{NoStatement, refusal_row, settle_file};
 use std::io::{Read, Write};
 use std::process::ExitCode;
 
@@ -14,8 +14,8 @@ fn run(rt: &HostRuntime) -> anyhow::Result<ExitCode> {
             rt.stdout().write_all(statement.as_slice())?;
             Ok(ExitCode::SUCCESS)
         }
-        Err(refusal @ NoStatement::Refused(_)) => {
-            print!(rt; "{refusal}")?;
+        Err(NoStatement::Refused(told)) => {
+            rt.stdout().write_all(refusal_row(told).written())?;
             Ok(ExitCode::FAILURE)
         }
         // A refusal is an output; any other error is handed on.

@@ -13,6 +13,7 @@ use crate::settlement::Settlement;
 use crate::stage::Stage;
 use crate::tables::{LineEntry, PoolClose, RosterEntry};
 use crate::workings::MonthTables;
+use arrayvec::ArrayVec;
 use assessment::{AvailabilityRule, DECEMBER, DayRow, MonthDate};
 use fund::FundBook;
 use pools::{PerPool, Pool};
@@ -41,7 +42,13 @@ impl<B: FundBook, G: AvailabilityRule, F: AvailabilityRule> Settlement<B, G, F> 
         ensures { LinesClose B.means (rules_of G.means F.means self.now.rules) (B.state self.now.book) tables.now.month.now.settings.month tables.now.month.now.price.cents tables.now.roster.now tables.now.rows.now lines.old result lines.new }
     {
         let price = tables.month.price;
-        let mut entries = tables.work_out(&self.rules);
+        // An `ArrayVec`, so that a close asks for no memory: want of it is none of its answers. The two are made in their place
+        // and lent, since together they take 41 kB, which an answer by value would move.
+        let mut entries = PerPool {
+            generic: ArrayVec::new(),
+            flexible: ArrayVec::new(),
+        };
+        tables.work_out(&self.rules, &mut entries);
         // Each pool's close writes its entries, and a fault of the first pool must stop the second.
         let pools = PerPool {
             generic: close_pool(&self.book, Pool::Generic, price, &mut entries.generic)?,

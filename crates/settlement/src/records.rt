@@ -10,7 +10,9 @@ use crate::fault::{ResourceDay, SettlementFault};
 use crate::settlement::Settlement;
 use crate::stage::Stage;
 use crate::tables::{RosterEntry, SubmittedDay};
-use assessment::{AvailabilityRule, DAY_PLACES, DayBreach, DayFigures, DayRecord, DayRow};
+use assessment::{
+    AvailabilityRule, DAY_PLACES, DatedRecord, DayBreach, DayFigures, DayRecord, DayRow,
+};
 use fund::FundBook;
 
 /// The fault that tells a breach of the day's limits.
@@ -58,9 +60,13 @@ impl<B: FundBook, G: AvailabilityRule, F: AvailabilityRule> Settlement<B, G, F> 
             return Err(SettlementFault::AlreadyRecorded(day.at));
         }
         let category = entry.category().unwrap();
-        let submitted = DayRecord::new(trade_day, category, &day.submission).map_err(
-            |breach| breach_fault(breach, day.at),
-        )?;
+        let record = DayRecord::new(category, &day.submission).map_err(|breach| {
+            breach_fault(breach, day.at)
+        })?;
+        let submitted = DatedRecord {
+            day: trade_day,
+            record,
+        };
         let result = self.rules.assess_day(&submitted);
         rows[place] = result.row();
         Ok(result.figures)

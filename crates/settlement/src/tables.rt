@@ -7,7 +7,7 @@ use assessment::{Category, DaySubmission, Line, TradeMonth};
 use pools::{OutOfRange, PerPool, Pool};
 
 /// A resource of the month, by its place in the roster.
-#[derive(Clone, Copy, PartialEq, Eq, Debug)]
+#[derive(Clone, Copy, Default, PartialEq, Eq, Debug)]
 pub struct RosterEntry {
     /// The caller's own number for the resource: any, and nothing is worked out from it.
     pub identifier: u32,

@@ -1,5 +1,5 @@
 //! A month's lines, worked out before anything is written to the caller's table.
-ghost use Rattle.std.specs.Prelude.{◌≡◌, ◌≤◌, length};
+ghost use Rattle.std.specs.Prelude.{◌≡◌, ◌≤◌, [], length};
 ghost use Rattle.arrayvec.specs.ArrayVec.{array_vec_len};
 ghost use Rattle.assessment.specs.Pairs.{rules_of};
 ghost use Rattle.pools.specs.PerPool.{entry_of};
@@ -41,17 +41,18 @@ pub(crate) struct MonthTables<'a> {
 }
 
 impl MonthTables<'_> {
-    /// Each pool's lines, resource by resource, charged lines with their cents and eligible ones at 0.
+    /// Each pool's lines, resource by resource, charged lines with their cents and eligible ones at 0, put into the entries
+    /// lent, of which there are none yet.
     pub(crate) fn work_out<G: AvailabilityRule, F: AvailabilityRule>(
         &self,
         rules: &RulePair<G, F>,
-    ) -> PerPool<ArrayVec<LineEntry, MOST_RESOURCES>>
-        ensures is { (p : Pool) → (entry_of result p).items ≡ charged_entries (rules_of G.means F.means rules.now) self.now.month.now.settings.month self.now.month.now.price.cents self.now.roster.now self.now.rows.now p }
-        ensures long { (p : Pool) → array_vec_len (entry_of result p) ≡ length self.now.roster.now }
-        ensures small { (p : Pool) → QuantitiesWithin (entry_of result p).items }
+        entries: &mut PerPool<ArrayVec<LineEntry, MOST_RESOURCES>>,
+    )
+        requires { (p : Pool) → (entry_of entries.old p).items ≡ [] }
+        ensures is { (p : Pool) → (entry_of entries.new p).items ≡ charged_entries (rules_of G.means F.means rules.now) self.now.month.now.settings.month self.now.month.now.price.cents self.now.roster.now self.now.rows.now p }
+        ensures long { (p : Pool) → array_vec_len (entry_of entries.new p) ≡ length self.now.roster.now }
+        ensures small { (p : Pool) → QuantitiesWithin (entry_of entries.new p).items }
     {
-        // An `ArrayVec`, so that a close asks for no memory: want of it is none of its answers.
-        let mut entries = PerPool::of(|_| ArrayVec::new());
         let price = self.month.price;
         for (entry, rows) in self.roster.iter().zip(self.rows.chunks_exact(DAY_PLACES)) {
             let category = entry.category().unwrap();
@@ -62,6 +63,5 @@ impl MonthTables<'_> {
                 entries.entry(pool).push(charged(price, lines.get(pool)));
             }
         }
-        entries
     }
 }

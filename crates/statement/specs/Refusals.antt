@@ -1,6 +1,5 @@
 -- Why a month file has no statement.
-use Rattle.std.specs.Prelude.{◌≡◌, ℕ, false, List, Some, Err, Option, codes, IsOk}
-use Rattle.statement.specs.Files.{records_of, month_part}
+use Rattle.std.specs.Prelude.{◌≡◌, ℕ, true, false, List, Some, Err, Option, codes}
 use Rattle.statement.specs.Printing.{output, is_settled}
 use Rattle.statement.specs.Rows.{refusal_row}
 use Rattle.statement.specs.Settling.{settled}
@@ -12,8 +11,8 @@ abbrev pub shown : NoStatement → Option (List ℕ)
 shown (Refused f) = Some (refusal_row f)
 shown OutOfMemory = Some (codes "memory allocation failed")
 
--- A file refused is not settled, but comes to this fault, and the fault's line is its whole output. Memory is first asked for after the month
--- record, so where it runs out there is one; nothing else follows, since with more memory the file may be settled as well as refused.
+-- A file refused is not settled, but comes to this fault, and the fault's line is its whole output. Memory is asked for by the statement's bytes
+-- alone, so where it runs out the file is settled.
 abbrev pub RefusedBy : List ℕ → NoStatement → Type 0
 RefusedBy bs (Refused f) = (is_settled bs ≡ false) × (settled bs ≡ Err f) × (refusal_row f ≡ output bs)
-RefusedBy bs OutOfMemory = IsOk (month_part (records_of bs))
+RefusedBy bs OutOfMemory = is_settled bs ≡ true

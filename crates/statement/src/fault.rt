@@ -62,6 +62,27 @@ impl From<SettlementFault> for StatementFault {
     }
 }
 
+/// A fault of what reads the file, told at the same offset.
+// By hand, as the next: contracts name what `?` makes.
+impl From<Located<ReaderFault>> for Located<StatementFault> {
+    ghost from_gives = { λ e r. r ≡ record { fault = Reader e.fault; offset = e.offset } };
+
+    fn from(Located { fault, offset }: Located<ReaderFault>) -> Located<StatementFault> {
+        let fault = StatementFault::Reader(fault);
+        Located { fault, offset }
+    }
+}
+
+/// A fault of the settlement, told at the same offset.
+impl From<Located<SettlementFault>> for Located<StatementFault> {
+    ghost from_gives = { λ e r. r ≡ record { fault = Settlement e.fault; offset = e.offset } };
+
+    fn from(Located { fault, offset }: Located<SettlementFault>) -> Located<StatementFault> {
+        let fault = StatementFault::Settlement(fault);
+        Located { fault, offset }
+    }
+}
+
 /// The same answer, with a fault told at the offset.
 pub(crate) fn at_offset<T, F>(answer: Result<T, F>, offset: usize) -> Result<T, Located<F>>
     ensures { result ≡ placed answer offset }

@@ -49,9 +49,9 @@ fn print_month(heap: Global, month: &ClosedMonth) -> Result<Vec<u8>, AllocError>
     Ok(out)
 }
 
-/// The statement of a month file, as bytes, or the refusal of its first fault. Memory is taken from `heap`; where it runs out the answer
-/// is `OutOfMemory`.
-#[tactic(auto, using(crate::proofs::Outputs::laws, crate::proofs::Outputs::refused_by, crate::proofs::Outputs::settled_begun), unfolding(crate::specs::Printing::output, crate::specs::Printing::is_settled))]
+/// The statement of a month file, as bytes, or the refusal of its first fault. Memory for the bytes is taken from `heap`; where it runs out
+/// the answer is `OutOfMemory`.
+#[tactic(auto, using(crate::proofs::Outputs::laws, crate::proofs::Outputs::refused_by), unfolding(crate::specs::Printing::output, crate::specs::Printing::is_settled))]
 pub fn settle_file(heap: Global, file: &[u8]) -> Result<Vec<u8>, NoStatement>
     ensures settled { IfOk result (λ v. (is_settled file.now ≡ true) × (v.items ≡ output file.now)) }
     ensures refused { IfErr result (RefusedBy file.now) }
@@ -61,6 +61,6 @@ pub fn settle_file(heap: Global, file: &[u8]) -> Result<Vec<u8>, NoStatement>
     ensures records { RecordsDecide }
     ensures order { DaysInAnyOrder }
 {
-    let month = settle_month(heap, file)?;
+    let month = settle_month(file)?;
     Ok(print_month(heap, &month)?)
 }

@@ -14,7 +14,7 @@ use std::fmt;
 pub enum NoStatement {
     /// The file's first fault, and the byte offset at which it is told.
     Refused(Located<StatementFault>),
-    /// Memory ran out. The file begins with a month record, and nothing else is told of it.
+    /// Memory ran out for the bytes of the statement. The file is settled.
     OutOfMemory,
 }
 

@@ -1,7 +1,7 @@
 //! Known figures and limits at their edges, through the public calls.
 use assessment::{
-    Bid, Category, DAY_PLACES, DayBreach, DayFigures, DayRecord, DayRow, DaySubmission, HOURS,
-    HourBids, MonthSettings, PoolFigures, SHIPPED_RULES, Showing, TradeMonth,
+    Bid, Category, DAY_PLACES, DatedRecord, DayBreach, DayFigures, DayRecord, DayRow,
+    DaySubmission, HOURS, HourBids, MonthSettings, PoolFigures, SHIPPED_RULES, Showing, TradeMonth,
 };
 use pools::PerPool;
 use std::test::Fail;
@@ -66,11 +66,10 @@ fn month_limits(rt: HostRuntime) {
     }
 }
 
-/// What is broken by a day of this category; None where it is taken, or where there is no such day or category.
+/// What is broken by a day of this category; None where it is taken, or where there is no such category.
 fn breach(category: u32, submission: DaySubmission) -> Option<DayBreach> {
-    let monday = MonthSettings::new(JUNE)?.day(4)?;
     let category = Category::try_from(category).ok()?;
-    DayRecord::new(monday, category, &submission).err()
+    DayRecord::new(category, &submission).err()
 }
 
 #[test]
@@ -118,10 +117,13 @@ fn partly_overlapping_windows(rt: HostRuntime) -> Result<(), Fail> {
         economic: 0,
         self_scheduled: 1000,
     };
-    let submitted = DayRecord::new(monday, peak, &submission(net(2000), net(1000), bid)).map_err(
-        |_| Fail::new("the day is refused"),
-    )?;
-    let figures = SHIPPED_RULES.assess_day(&submitted).figures;
+    let submitted = submission(net(2000), net(1000), bid);
+    let record = DayRecord::new(peak, &submitted).map_err(|_| Fail::new("the day is refused"))?;
+    let dated = DatedRecord {
+        day: monday,
+        record,
+    };
+    let figures = SHIPPED_RULES.assess_day(&dated).figures;
     assert_eq!(rt; figures.generic.obligation, 1_166_666);
     assert_eq!(rt; figures.generic.availability, 833_333);
     assert_eq!(rt; figures.flexible.obligation, 833_333);

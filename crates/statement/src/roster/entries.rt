@@ -1,22 +1,22 @@
 //! A roster that grows by one resource at a time.
-ghost use Rattle.std.specs.Prelude.{◌≡◌, ◌≤◌, [], length, IfOk};
+ghost use Rattle.std.specs.Prelude.{◌≡◌, ◌≤◌, [], length};
 ghost use Rattle.settlement.specs.Tables.{RosterFits};
 ghost use Rattle.statement.specs.Answers.{Leaves};
 ghost use Rattle.statement.specs.Rosters.{days_offset, enrolled};
 
 use super::{MOST_RESOURCES, Roster};
 use crate::reader::{MONTH_BYTES, RESOURCE_BYTES};
+use arrayvec::ArrayVec;
 use settlement::{RosterEntry, SettlementFault};
-use std::alloc::{AllocError, Global};
 
 impl Roster {
-    /// No resources, and room for 64. Fails where memory runs out.
-    pub(crate) fn empty(heap: Global) -> Result<Roster, AllocError>
-        ensures { IfOk result (λ r. r ≡ []) }
+    /// No resources, and room for 64.
+    pub(crate) fn empty() -> Roster
+        ensures { result ≡ [] }
     {
-        Ok(Roster {
-            entries: Vec::with_capacity(heap, MOST_RESOURCES)?,
-        })
+        Roster {
+            entries: ArrayVec::new(),
+        }
     }
 
     /// The resources, by number.
@@ -42,7 +42,7 @@ impl Roster {
         if self.entries.len() >= MOST_RESOURCES || entry.category().is_err() {
             return Err(SettlementFault::UnfitTables);
         }
-        self.entries.push_reserved(entry);
+        self.entries.push(entry);
         Ok(())
     }
 }

@@ -16,7 +16,7 @@ read c = rw c.entries-number.ensures.value at c.roster_record.ensures.value
 pub returns-in_err-entry-clause-value : goal.returns-in_err-entry-clause-value
 returns-in_err-entry-clause-value c =
     let is = read (goal.at.returns-in_err-entry-clause-value c).After-roster_record in
-    refused_at _ c.roster_record.result c.loop-at.at Reader _ (sym c.at_offset.ensures ∙ c.in_err-entry.was) c.from_residual-in_err-entry.ensures.1
+    refused_at _ c.roster_record.result c.loop-at.at Reader _ (sym c.at_offset.ensures ∙ c.in_err-entry.was) c.from_residual.ensures.1
     (λ f no. c.loop-at.invariant.same ∙ roster_reader c.loop-at.roster c.args.file.now c.loop-at.at c.roster_record.result (omega arith) is f no)
 
 pub returns-in_err-at_offset-in-Some-clause-value : goal.returns-in_err-at_offset-in-Some-clause-value

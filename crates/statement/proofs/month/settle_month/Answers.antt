@@ -1,11 +1,11 @@
-use Rattle.std.proofs.Common.{◌≡◌, ◌≤◌, length, drop, Ok, refl, sym, ◌∙◌, arith}
+use Rattle.std.proofs.Common.{◌≡◌, ◌≤◌, length, drop, Ok, sym, ◌∙◌, arith}
 use Rattle.std.proofs.lemmas.Result.{IfOk-at_ok}
 use Rattle.statement.specs.Files.{records_of, month_part}
 use Rattle.statement.specs.Months.{roster_part, closed_of}
 use Rattle.statement.specs.Settling.{settled_from}
 use Rattle.statement.specs.declared.fault.StatementFault.TheVariants.{Reader}
 use Rattle.statement.proofs.Answering.{placed_ok, refused_at, stops, goes_on}
-use Rattle.statement.proofs.Wholes.{month_read, month_refused, settled_unread, settled_by, settled_open}
+use Rattle.statement.proofs.Wholes.{month_read, month_refused, settled_unread, settled_by}
 use Rattle.statement.proofs.month.settle_month.Goals as goal
 use Rattle.statement.proofs.month.settle_month.Goals.{In_ok-terms}
 
@@ -28,41 +28,8 @@ returns-in_err-roster-clause-value c =
     let m = settled_by bs c.in_ok-terms.terms (read (goal.at.returns-in_err-roster-clause-value c).In_ok-terms) in
     rw m (stops (roster_part bs) closed_of _ (λ part. settled_from c.in_ok-terms.terms part) c.read_roster.result _ _ c.in_err-roster.was c.read_roster.ensures.value c.from_residual-in_err-roster.ensures.1)
 
-pub returns-in_err-roster-clause-begun : goal.returns-in_err-roster-clause-begun
-returns-in_err-roster-clause-begun c = let m = read (goal.at.returns-in_err-roster-clause-begun c).In_ok-terms in λ _. rw m refl
-
-pub returns-in_err-month-clause-value : goal.returns-in_err-month-clause-value
-returns-in_err-month-clause-value c =
-    let bs = c.args.file.now in
-    let m = settled_by bs c.in_ok-terms.terms (read (goal.at.returns-in_err-month-clause-value c).In_ok-terms) in
-    let s = settled_open c.in_ok-terms.terms bs c.in_ok-roster.roster in
-    rw m (goes_on (roster_part bs) closed_of _ (λ part. settled_from c.in_ok-terms.terms part) c.read_roster.result _ _ c.in_ok-roster.was c.read_roster.ensures.value
-    (rw s (stops (λ x. x) closed_of _ _ c.open.result _ _ c.in_err-month.was c.open.ensures c.from_residual-in_err-month.ensures.1)))
-
-pub returns-in_err-month-clause-begun : goal.returns-in_err-month-clause-begun
-returns-in_err-month-clause-begun c = let m = read (goal.at.returns-in_err-month-clause-begun c).In_ok-terms in λ _. rw m refl
-
-pub returns-in_err-record_days-clause-value : goal.returns-in_err-record_days-clause-value
-returns-in_err-record_days-clause-value c =
-    let bs = c.args.file.now in
-    let m = settled_by bs c.in_ok-terms.terms (read (goal.at.returns-in_err-record_days-clause-value c).In_ok-terms) in
-    let s = settled_open c.in_ok-terms.terms bs c.in_ok-roster.roster in
-    rw m (goes_on (roster_part bs) closed_of _ (λ part. settled_from c.in_ok-terms.terms part) c.read_roster.result _ _ c.in_ok-roster.was c.read_roster.ensures.value
-    (rw s (goes_on (λ x. x) closed_of _ _ c.open.result _ _ c.in_ok-month.was c.open.ensures
-    (stops _ closed_of _ _ c.record_days.result _ _ c.in_err-record_days.was c.record_days.ensures.value c.from_residual-in_err-record_days.ensures.1))))
-
-pub returns-in_err-record_days-clause-begun : goal.returns-in_err-record_days-clause-begun
-returns-in_err-record_days-clause-begun c = let m = read (goal.at.returns-in_err-record_days-clause-begun c).In_ok-terms in λ _. rw m refl
-
 pub returns-clause-value : goal.returns-clause-value
 returns-clause-value c =
     let bs = c.args.file.now in
     let m = settled_by bs c.in_ok-terms.terms (read (goal.at.returns-clause-value c).In_ok-terms) in
-    let s = settled_open c.in_ok-terms.terms bs c.in_ok-roster.roster in
-    let last = rw (c.record_days.ensures.same.0, c.record_days.ensures.same.1) at c.close.ensures.value in
-    rw m (goes_on (roster_part bs) closed_of _ (λ part. settled_from c.in_ok-terms.terms part) c.read_roster.result _ c.close.result c.in_ok-roster.was c.read_roster.ensures.value
-    (rw s (goes_on (λ x. x) closed_of _ _ c.open.result _ c.close.result c.in_ok-month.was c.open.ensures
-    (goes_on _ closed_of _ _ c.record_days.result _ _ c.in_ok-record_days.was c.record_days.ensures.value last))))
-
-pub returns-clause-begun : goal.returns-clause-begun
-returns-clause-begun c = let m = read (goal.at.returns-clause-begun c).In_ok-terms in λ _. rw m refl
+    rw m (goes_on (roster_part bs) closed_of _ (λ part. settled_from c.in_ok-terms.terms part) c.read_roster.result _ c.settle_days.result c.in_ok-roster.was c.read_roster.ensures.value c.settle_days.ensures.value)

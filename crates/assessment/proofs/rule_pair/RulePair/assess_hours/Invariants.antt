@@ -15,5 +15,5 @@ invariant-loop-hour g l =
       pools : (p : Pool) → totals_of (entry_of l.totals p) ≡ hours_to rules case p passed;
       within : passed ≤ 24;
       ending : l.hour-iterator.a.start ≡ passed + 1;
-      left : l.hour-iterator.b.rest.now ≡ drop passed l.submitted.submission.hours;
+      left : l.hour-iterator.b.rest.now ≡ drop passed l.submitted.record.submission.hours;
     }

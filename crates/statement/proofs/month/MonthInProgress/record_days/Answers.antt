@@ -16,25 +16,25 @@ day c = placed_ok c.day_record.result c.loop-at.at _ (sym c.at_offset.ensures �
 -- once it is recorded, the days after it are left
 more : (c : In_ok-at_offset) → c.day_record.result ≡ Ok c.in_ok-day.day
     → (c.loop-at.at + 412 ≤ length c.args.file.now)
-    × (days_from c.loop-at.self.terms c.loop-at.self.roster c.loop-at.self.rows c.loop-at.at (records_of (drop c.loop-at.at c.args.file.now)) ≡ days_from c.loop-at.self.terms c.loop-at.self.roster c.record.new.self.rows (c.loop-at.at + 412) (records_of (drop (c.loop-at.at + 412) c.args.file.now)))
+    × (days_from c.args.self.now.terms c.args.self.now.roster c.loop-at.rows c.loop-at.at (records_of (drop c.loop-at.at c.args.file.now)) ≡ days_from c.args.self.now.terms c.args.self.now.roster c.record.new.rows (c.loop-at.at + 412) (records_of (drop (c.loop-at.at + 412) c.args.file.now)))
 more c o =
-    let m = c.loop-at.self in
+    let m = c.args.self.now in
     let q = placed_ok c.record.result c.loop-at.at _ (sym c.at_offset-in-loop-at.ensures ∙ c.in_ok-at_offset.was) in
     let w = IfOk-at_ok _ o c.day_record.ensures.within in
-    (omega (arith, w, take_rest_length c.args.file.now c.loop-at.at), days_more m.terms m.roster m.rows c.args.file.now c.loop-at.at c.day_record.result (omega arith) c.day_record.ensures.value c.in_ok-day.day c.record.new.self.rows o (leaves_ok c.record.result _ _ _ q c.record.ensures.value))
+    (omega (arith, w, take_rest_length c.args.file.now c.loop-at.at), days_more m.terms m.roster c.loop-at.rows c.args.file.now c.loop-at.at c.day_record.result (omega arith) c.day_record.ensures.value c.in_ok-day.day c.record.new.rows o (leaves_ok c.record.result _ _ _ q c.record.ensures.value))
 
 pub returns-in_err-day-clause-value : goal.returns-in_err-day-clause-value
 returns-in_err-day-clause-value c =
-    let m = c.loop-at.self in
+    let m = c.args.self.now in
     refused_at _ c.day_record.result c.loop-at.at Reader _ (sym c.at_offset.ensures ∙ c.in_err-day.was) c.from_residual.ensures.1
-    (λ f is. c.loop-at.invariant.rest ∙ days_reader m.terms m.roster m.rows c.args.file.now c.loop-at.at c.day_record.result (omega arith) c.day_record.ensures.value f is)
+    (λ f is. c.loop-at.invariant.rest ∙ days_reader m.terms m.roster c.loop-at.rows c.args.file.now c.loop-at.at c.day_record.result (omega arith) c.day_record.ensures.value f is)
 
 pub returns-in_err-at_offset-clause-value : goal.returns-in_err-at_offset-clause-value
 returns-in_err-at_offset-clause-value c =
-    let m = c.loop-at.self in
+    let m = c.args.self.now in
     let o = day (goal.at.returns-in_err-at_offset-clause-value c).In_ok-day in
     refused_at _ c.record.result c.loop-at.at Settlement _ (sym c.at_offset-in-loop-at.ensures ∙ c.in_err-at_offset.was) c.from_residual-in_err-at_offset.ensures.1
-    (λ f is. c.loop-at.invariant.rest ∙ days_refused m.terms m.roster m.rows c.args.file.now c.loop-at.at c.day_record.result (omega arith) c.day_record.ensures.value c.in_ok-day.day f o (leaves_err c.record.result _ _ f is c.record.ensures.value))
+    (λ f is. c.loop-at.invariant.rest ∙ days_refused m.terms m.roster c.loop-at.rows c.args.file.now c.loop-at.at c.day_record.result (omega arith) c.day_record.ensures.value c.in_ok-day.day f o (leaves_err c.record.result _ _ f is c.record.ensures.value))
 
 pub loop-at-preserved : goal.loop-at-preserved
 loop-at-preserved c =
@@ -42,19 +42,20 @@ loop-at-preserved c =
     let k = more at.In_ok-at_offset (day at.In_ok-day) in
     record {
       within = k.0;
-      same = (c.record.ensures.same.0 ∙ c.loop-at.invariant.same.0, c.record.ensures.same.1 ∙ c.loop-at.invariant.same.1);
-      rest = rw (c.record.ensures.same.0, c.record.ensures.same.1) (c.loop-at.invariant.rest ∙ k.1);
+      fit = (c.loop-at.invariant.fit.0, c.record.auto.rows ∙ c.loop-at.invariant.fit.1);
+      each = c.record.ensures.rows;
+      rest = c.loop-at.invariant.rest ∙ k.1;
     }
 
 pub returns-clause-value : goal.returns-clause-value
 returns-clause-value c =
-    let m = c.loop-at.self in
-    c.loop-at.invariant.rest ∙ days_end m.terms m.roster m.rows c.args.file.now c.loop-at.at (omega arith) (omega arith)
+    let m = c.args.self.now in
+    c.loop-at.invariant.rest ∙ days_end m.terms m.roster c.loop-at.rows c.args.file.now c.loop-at.at (omega arith) (omega arith)
 
 -- the last day of the file
 pub returns-in_ok-at_offset-clause-value : goal.returns-in_ok-at_offset-clause-value
 returns-in_ok-at_offset-clause-value c =
     let at = goal.at.returns-in_ok-at_offset-clause-value c in
-    let m = c.loop-at.self in
+    let m = c.args.self.now in
     let k = more at.In_ok-at_offset (day at.In_ok-day) in
-    c.loop-at.invariant.rest ∙ k.1 ∙ days_end m.terms m.roster c.record.new.self.rows c.args.file.now (c.loop-at.at + 412) (omega arith) k.0
+    c.loop-at.invariant.rest ∙ k.1 ∙ days_end m.terms m.roster c.record.new.rows c.args.file.now (c.loop-at.at + 412) (omega arith) k.0
